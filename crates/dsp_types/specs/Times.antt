@@ -1,0 +1,18 @@
+-- Slot numbers and rounded quotients (01, "Times"; "What the Rust has that Rattle lacks"). Definitions only.
+use Prim.Native.Nat.{ℕ, zero, suc, _-_, _/_, _%_}
+use lib.IntN.{ℤ, pos, negsuc}
+
+-- how many slot numbers there are: 4 slots, 18 frames, 60 multiframes, 65,536 hyperframes
+abbrev pub slots : ℕ
+slots = 283115520
+
+-- the slot number of a whole number: 0 to 283,115,519, wrapping at both ends. `negsuc n` is −1 − n
+unfoldable pub slotOf : ℤ → ℕ
+slotOf (pos n) = n % slots
+slotOf (negsuc n) = slots - 1 - n % slots
+
+-- n over d rounded down; a divisor of 0 counts as 1
+unfoldable pub divEuclid : ℤ → ℕ → ℤ
+divEuclid n zero = n
+divEuclid (pos n) (suc d) = pos (n / suc d)
+divEuclid (negsuc n) (suc d) = negsuc (n / suc d)

@@ -1,0 +1,81 @@
+// What every stage shares: a complex sample, a sample count, a slot number, and the check of bit bytes.
+ghost use mathlib.Core.Path.{_≡_};
+ghost use Prim.Native.Nat.{_%_};
+ghost use lib.IntN.{pos, _+ℤ_};
+ghost use Rattle.dsp_types.specs.Times.{slotOf, slots, divEuclid};
+ghost use Rattle.dsp_types.specs.Refusals.{notBits};
+
+// Made by the radio and by the filter, read by filter, timing and decisions.
+pub struct ComplexSample {
+    pub re: f32,
+    pub im: f32,
+}
+
+// A number of samples, or the counter of one: 72,000 a second.
+pub struct SampleCount(pub i64);
+
+// A slot number: 4 slots, 18 frames, 60 multiframes and 65,536 hyperframes, so 0 to 283,115,519. Any stored
+// number counts modulo 283,115,520.
+pub struct TdmaTime(pub u32);
+
+const SLOTS: i64 = 283_115_520;
+
+// The whole number n modulo the number of slots.
+fn wrapped(n: i64) -> u32
+    ensures { λ r. ⌜ r ≡ slotOf n ⌝ }
+{
+    if n >= 0 {
+        ((n as u64) % (SLOTS as u64)) as u32
+    } else {
+        (SLOTS as u64 - 1 - ((-1 - n) as u64) % (SLOTS as u64)) as u32
+    }
+}
+
+impl TdmaTime {
+    pub fn default() -> TdmaTime
+        ensures { λ r. ⌜ r .0 ≡ 0 ⌝ }
+    {
+        TdmaTime(0)
+    }
+
+    pub fn from_int(n: i32) -> TdmaTime
+        ensures { λ r. ⌜ r .0 ≡ slotOf n ⌝ }
+    {
+        TdmaTime(wrapped(n as i64))
+    }
+
+    pub fn to_int(self) -> u32
+        ensures { λ r. ⌜ r ≡ self .0 % slots ⌝ }
+    {
+        self.0 % 283_115_520
+    }
+
+    pub fn add_timeslots(self, n: i32) -> TdmaTime
+        ensures { λ r. ⌜ r .0 ≡ slotOf (pos (self .0 % slots) +ℤ n) ⌝ }
+    {
+        TdmaTime(wrapped(self.to_int() as i64 + n as i64))
+    }
+}
+
+// n over d, rounded down. A divisor of 0 counts as 1.
+pub fn div_euclid(n: i64, d: u32) -> i64
+    ensures { λ r. ⌜ r ≡ divEuclid n d ⌝ }
+{
+    let by = if d == 0 { 1 } else { d as u64 };
+    if n >= 0 {
+        (n as u64 / by) as i64
+    } else {
+        -1 - ((-1 - n) as u64 / by) as i64
+    }
+}
+
+// Whether some byte is neither 0 nor 1. It looks at every byte, so that the compiler can take many at once.
+pub fn not_bits(bytes: &[u8]) -> bool
+    ensures { λ r. ⌜ r ≡ notBits (now (bytes .entry)) ⌝ }
+{
+    let mut found = false;
+    for i in 0..bytes.len() {
+        found = found | (1 < bytes[i]);
+    }
+    found
+}
