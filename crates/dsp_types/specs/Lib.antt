@@ -1,2 +1,5 @@
 pub mod Refusals
 pub mod Times
+pub mod Samples
+pub mod Ring
+pub mod Ints

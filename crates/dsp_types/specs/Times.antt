@@ -11,8 +11,12 @@ unfoldable pub slotOf : ℤ → ℕ
 slotOf (pos n) = n % slots
 slotOf (negsuc n) = slots - 1 - n % slots
 
--- n over d rounded down; a divisor of 0 counts as 1
+-- a divisor of 0 counts as 1
+unfoldable pub divisor : ℕ → ℕ
+divisor zero = 1
+divisor (suc d) = suc d
+
+-- n over d, rounded down
 unfoldable pub divEuclid : ℤ → ℕ → ℤ
-divEuclid n zero = n
-divEuclid (pos n) (suc d) = pos (n / suc d)
-divEuclid (negsuc n) (suc d) = negsuc (n / suc d)
+divEuclid (pos n) d = pos (n / divisor d)
+divEuclid (negsuc n) d = negsuc (n / divisor d)

@@ -2,6 +2,7 @@
 ghost use mathlib.Core.Path.{_≡_};
 ghost use Prim.Native.Nat.{_%_};
 ghost use lib.IntN.{pos, _+ℤ_};
+ghost use lib.Signed.{mag};
 ghost use Rattle.dsp_types.specs.Times.{slotOf, slots, divEuclid};
 ghost use Rattle.dsp_types.specs.Refusals.{notBits};
 
@@ -18,17 +19,19 @@ pub struct SampleCount(pub i64);
 // number counts modulo 283,115,520.
 pub struct TdmaTime(pub u32);
 
-const SLOTS: i64 = 283_115_520;
+// n where it is 0 or more, else −1 − n: a sign and this number give n back, and it always fits.
+fn unsigned(n: i64) -> u64
+    ensures { λ r. ⌜ r ≡ mag n ⌝ }
+{
+    if n < 0 { (-1 - n) as u64 } else { n as u64 }
+}
 
 // The whole number n modulo the number of slots.
 fn wrapped(n: i64) -> u32
     ensures { λ r. ⌜ r ≡ slotOf n ⌝ }
 {
-    if n >= 0 {
-        ((n as u64) % (SLOTS as u64)) as u32
-    } else {
-        (SLOTS as u64 - 1 - ((-1 - n) as u64) % (SLOTS as u64)) as u32
-    }
+    let rest = (unsigned(n) % 283_115_520) as u32;
+    if n < 0 { 283_115_519 - rest } else { rest }
 }
 
 impl TdmaTime {
@@ -62,11 +65,8 @@ pub fn div_euclid(n: i64, d: u32) -> i64
     ensures { λ r. ⌜ r ≡ divEuclid n d ⌝ }
 {
     let by = if d == 0 { 1 } else { d as u64 };
-    if n >= 0 {
-        (n as u64 / by) as i64
-    } else {
-        -1 - ((-1 - n) as u64 / by) as i64
-    }
+    let quotient = (unsigned(n) / by) as i64;
+    if n < 0 { -1 - quotient } else { quotient }
 }
 
 // Whether some byte is neither 0 nor 1. It looks at every byte, so that the compiler can take many at once.

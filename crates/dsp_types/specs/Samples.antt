@@ -1,0 +1,23 @@
+-- What every stage says of samples: silence, and the sample j calls ago (01, "Samples and the filter line").
+use Prim.Native.Nat.{ℕ, zero, suc}
+use mathlib.Core.List.{List}
+use lib.ListN.{getD}
+use lib.Ieee.{Float, binary32, ofBits}
+use Rattle.dsp_types.specs.declared.ComplexSample.{ComplexSample}
+
+-- +0.0, as the code's literal 0.0 has it
+abbrev pub zeroF : Float
+zeroF = ofBits binary32 0
+
+-- what older samples start as
+abbrev pub silence : ComplexSample
+silence = record { re = zeroF; im = zeroF }
+
+-- in(j), the element j calls ago of a record that is kept newest first; older ones are z
+abbrev pub ago : {A : Type 0} → A → List A → ℕ → A
+ago z xs j = getD xs j z
+
+-- the record f, one call later: x is the newest now
+abbrev pub newer : {A : Type 0} → A → (ℕ → A) → ℕ → A
+newer x f zero = x
+newer x f (suc j) = f j
