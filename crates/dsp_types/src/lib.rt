@@ -20,7 +20,7 @@ pub struct SampleCount(pub i64);
 pub struct TdmaTime(pub u32);
 
 // n where it is 0 or more, else −1 − n: a sign and this number give n back, and it always fits.
-fn unsigned(n: i64) -> u64
+pub fn unsigned(n: i64) -> u64
     ensures { λ r. ⌜ r ≡ mag n ⌝ }
 {
     if n < 0 { (-1 - n) as u64 } else { n as u64 }
