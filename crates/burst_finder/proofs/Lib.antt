@@ -1,0 +1,8 @@
+pub mod Distance
+pub mod Turns
+pub mod Parts
+pub mod Steps
+pub mod Best
+pub mod Lock
+pub mod Downlink
+pub mod Findings

@@ -1,0 +1,12 @@
+-- The table as a whole: each row's definition computes to what 01 states.
+use mathlib.Core.Path.{_≡_, refl}
+use mathlib.Core.List.{map}
+use Rattle.dsp_types.specs.Refusals.{wrongLength, notBits}
+use Rattle.train_consts.specs.Training.{normal1, normal2, normal3, synchronization, frequencyCorrection}
+use Rattle.slotter.specs.Phases.{phaseOf, phaseSum, modulo8, closes, adjustment}
+use Rattle.slotter.specs.Bursts.{syncFields, normalFields, trainingOf, firstWindow, lastWindow, downlink, blockRefusal, trainingRefusal, answered, syncBurst, normalBurst}
+use Rattle.figures.specs.Figures.{burst, computed, stated, figures}
+
+pub table : map computed figures ≡ map stated figures
+unfolding wrongLength notBits normal1 normal2 normal3 synchronization frequencyCorrection phaseOf phaseSum modulo8 closes adjustment syncFields normalFields trainingOf firstWindow lastWindow downlink blockRefusal trainingRefusal answered syncBurst normalBurst burst computed stated figures
+table = refl

@@ -1,0 +1,107 @@
+-- The laws of the filter that callers go by: it reads 32 samples, a line holds the newest 32, a block is its samples one by one. Assumes nothing.
+use mathlib.Core.Path.{_≡_, refl, sym, ap, _∙_}
+use mathlib.Core.List.{List, [], _∷_, _++_, reverseAux}
+use Prim.Native.Nat.{ℕ, zero, suc, _+_, _-_, _*_, _<_, _≤_, min}
+use native.Mathlib.Omega.{arith}
+use lib.ListN.{getD, length, take, replicate}
+use lib.Seq.{take-all}
+use lib.Ieee.{Float}
+use Rattle.dsp_types.specs.declared.ComplexSample.{ComplexSample}
+use Rattle.dsp_types.specs.Samples.{silence, ago}
+use Rattle.dsp_types.specs.Ring.{Agree, newest, newest-newer, newer-ago}
+use Rattle.fir.specs.Fir.{termOf, laneUpTo, laneOf, firOf, filterOf, filteredOf, LineOf, lineAfter, outsOf, samplesOf, blockOf}
+
+-- ---- the filter reads the newest 32 and no other
+
+term-cong : {f g : ℕ → Float} → Agree 32 f g → (k : ℕ) → k < 16 → termOf f k ≡ termOf g k
+unfolding termOf
+term-cong a k h = rw (a (15 - k) (omega arith), a (16 + k) (omega arith))
+
+lane-cong : {f g : ℕ → Float} → Agree 32 f g → (v t : ℕ) → v < 4 → t ≤ 4 → laneUpTo f v t ≡ laneUpTo g v t
+unfolding laneUpTo
+lane-cong a v zero h k = refl
+lane-cong a v (suc t) h k = rw (lane-cong a v t h (omega arith), term-cong a (v + 4 * t) (omega arith))
+
+pub fir-cong : {f g : ℕ → Float} → Agree 32 f g → firOf f ≡ firOf g
+unfolding firOf laneOf
+fir-cong a =
+    rw (
+      lane-cong a 0 4 (omega arith) (omega arith),
+      lane-cong a 1 4 (omega arith) (omega arith),
+      lane-cong a 2 4 (omega arith) (omega arith),
+      lane-cong a 3 4 (omega arith) (omega arith),
+    )
+
+pub filter-cong : {f g : ℕ → ComplexSample} → Agree 32 f g → filterOf f ≡ filterOf g
+unfolding filterOf
+filter-cong a =
+    λ i. record {
+      re = fir-cong (λ d k. ap (λ (s : ComplexSample). s .re) (a d k)) i;
+      im = fir-cong (λ d k. ap (λ (s : ComplexSample). s .im) (a d k)) i;
+    }
+
+-- ---- records written out as lists
+
+-- a record of one element is a list of it
+pub newest-same : {A : Type 0} (n : ℕ) (z : A) {f : ℕ → A} → Agree n f (λ j. z) → newest n f ≡ replicate n z
+unfolding newest
+newest-same zero z a = refl
+newest-same (suc n) z {f} a = λ i. a zero (omega arith) i ∷ newest-same n z {f = λ d. f (suc d)} (λ d k. a (suc d) (omega arith)) i
+
+-- an element of the list is that of the record
+pub newest-at : {A : Type 0} (n : ℕ) (f : ℕ → A) (z : A) (d : ℕ) → d < n → getD (newest n f) d z ≡ f d
+unfolding newest
+newest-at zero f z d k = absurd (omega arith)
+newest-at (suc n) f z zero k = refl
+newest-at (suc n) f z (suc d) k = newest-at n (λ j. f (suc j)) z d (omega arith)
+
+-- ---- a line against the list of all inputs so far
+
+pub line-new : LineOf (replicate 32 silence) []
+line-new = record { held = sym (newest-same 32 silence (λ d k. refl)) }
+
+module _ {line xs : List ComplexSample} (x : ComplexSample) (h : LineOf line xs) where
+  pub line-sample : LineOf (take 32 (x ∷ line)) (x ∷ xs)
+  line-sample = record { held = rw (h .held) (sym (newest-newer 32 x (λ d k. sym (newer-ago x silence xs d)))) }
+
+  pub line-out : filterOf (ago silence (x ∷ line)) ≡ filterOf (ago silence (x ∷ xs))
+  line-out = filter-cong each
+    where
+      each : (d : ℕ) → d < 32 → ago silence (x ∷ line) d ≡ ago silence (x ∷ xs) d
+      each zero k = refl
+      each (suc d) k = rw (h .held) (newest-at 32 (ago silence xs) silence d (omega arith))
+
+-- ---- blocks of samples
+
+pub line-block : (ys : List ComplexSample) {line xs : List ComplexSample} → LineOf line xs → LineOf (lineAfter line ys) (reverseAux ys xs)
+unfolding lineAfter
+line-block [] h = h
+line-block (y ∷ ys) h = line-block ys (line-sample y h)
+
+pub outs-block : (ys : List ComplexSample) {line xs : List ComplexSample} → LineOf line xs
+    → filteredOf (reverseAux ys xs) ≡ reverseAux (outsOf line ys) (filteredOf xs)
+unfolding outsOf filteredOf
+outs-block [] h = refl
+outs-block (y ∷ ys) {line} {xs} h =
+    outs-block ys (line-sample y h) ∙ ap (λ (o : ComplexSample). reverseAux (outsOf (take 32 (y ∷ line)) ys) (o ∷ filteredOf xs)) (sym (line-out y h))
+
+pub line-append : (line xs ys : List ComplexSample) → lineAfter line (xs ++ ys) ≡ lineAfter (lineAfter line xs) ys
+unfolding lineAfter
+line-append line [] ys = refl
+line-append line (x ∷ xs) ys = line-append (take 32 (x ∷ line)) xs ys
+
+pub outs-append : (line xs ys : List ComplexSample) → outsOf line (xs ++ ys) ≡ outsOf line xs ++ outsOf (lineAfter line xs) ys
+unfolding outsOf lineAfter
+outs-append line [] ys = refl
+outs-append line (x ∷ xs) ys = ap (λ (l : List ComplexSample). filterOf (ago silence (x ∷ line)) ∷ l) (outs-append (take 32 (x ∷ line)) xs ys)
+
+pub length-outs : (line xs : List ComplexSample) → length (outsOf line xs) ≡ length xs
+unfolding outsOf
+length-outs line [] = refl
+length-outs line (x ∷ xs) = ap suc (length-outs (take 32 (x ∷ line)) xs)
+
+-- a block that fits is taken whole
+pub block-whole : (re im outRe outIm : List Float) → length (samplesOf re im) ≤ min 256 (min (length outRe) (length outIm))
+    → blockOf re im outRe outIm ≡ samplesOf re im
+unfolding blockOf
+block-whole re im outRe outIm h = take-all (min 256 (min (length outRe) (length outIm))) (samplesOf re im) h

@@ -1,0 +1,3 @@
+mod Rows
+mod Blocks
+pub mod Laws

@@ -1,0 +1,83 @@
+-- `history::store_in` meets its contract. The loop's invariant: the first n elements are written.
+use mathlib.Core.Path.{_≡_, refl, _∙_}
+use Prim.Native.Nat.{_+_, _≤_, _-_, _%_}
+use native.Mathlib.Omega.{arith}
+use lib.ListN.{length, take}
+use lib.Seq.{take-length}
+use borrow.Author.Needs.{needs}
+use Rattle.history.specs.History.{heldIn, heldAfter}
+use Rattle.history.proofs.Laws.{held-mod, store-step}
+use Rattle.history.proofs.store_in.Statement.{statement}
+use Rattle.history.proofs.store_in.Tie as tie
+
+abbrev Inv-loop : tie.InvT-loop
+Inv-loop ring₀ at from newest₀ n₀ n-end ring newest n = (n ≤ length from) × (n-end ≡ length from) × (length ring ≡ 2048) × (newest ≡ (at % 2048 + n) % 2048) × (heldIn ring newest ≡ heldAfter (heldIn ring₀ at) (take n from))
+
+abbrev μ-loop : tie.MeasureT-loop
+μ-loop ring₀ at from newest₀ n₀ n-end ring newest n = length from - n
+
+loop-holds : tie.Need-loop-holds Inv-loop μ-loop
+unfolding heldAfter
+loop-holds c =
+    let a = c .before .before .args in
+    (search needs, search needs, search needs, search needs, held-mod (a .ring .now) (a .at))
+
+next-requires : tie.Need-next-requires Inv-loop μ-loop
+next-requires c κs = search needs
+
+mul-ring : tie.Need-mul-ring Inv-loop μ-loop
+mul-ring c = search needs
+
+shared-slice-read-ring : tie.Need-shared-slice-read-ring Inv-loop μ-loop
+shared-slice-read-ring c = search needs
+
+mul-ring-2 : tie.Need-mul-ring-2 Inv-loop μ-loop
+mul-ring-2 c = search needs
+
+slice-write-ring : tie.Need-slice-write-ring Inv-loop μ-loop
+slice-write-ring c = search needs
+
+add-n : tie.Need-add-n Inv-loop μ-loop
+add-n c = search needs
+
+loop-less : tie.Need-loop-less Inv-loop μ-loop
+loop-less c = search needs
+
+loop-again : tie.Need-loop-again Inv-loop μ-loop
+loop-again c =
+    let l = c .before .before .before .loop in
+    let a = c .before .before .before .before .before .before .args in (
+      search needs,
+      search needs,
+      search needs,
+      search needs,
+      rw (c .before .next .ensures) (store-step (l .ring) (heldIn (a .ring .now) (a .at)) (a .from .now) (l .newest) (l .n) (search needs) (search needs) (l .inv .4)),
+    )
+
+same-length : tie.Need-same-length Inv-loop μ-loop
+same-length c = search needs
+
+returns : tie.Need-returns Inv-loop μ-loop
+returns c =
+    let l = c .before .loop in
+    let a = c .before .before .before .before .args in
+    let e : l .n ≡ length (a .from .now) = omega arith in
+    (search needs, l .inv .4 ∙ rw (e, take-length (a .from .now)))
+
+pub store-in-spec : {M : Type 1} → statement M
+store-in-spec =
+    tie.close
+    (tie.spec
+    Inv-loop
+    μ-loop
+    loop-holds
+    next-requires
+    mul-ring
+    shared-slice-read-ring
+    mul-ring-2
+    slice-write-ring
+    add-n
+    loop-less
+    loop-again
+    same-length
+    returns)

@@ -1,0 +1,39 @@
+-- The past (01, "The past"; history.rs): what its rings hold, as lists, newest first. Any index counts modulo 2,048.
+use mathlib.Core.Path.{_≡_}
+use mathlib.Core.List.{List, [], _∷_, map}
+use Prim.Native.Nat.{ℕ, _+_, _%_}
+use lib.ListN.{take}
+use lib.Ieee.{Float, nan}
+use Rattle.dsp_types.specs.declared.ComplexSample.{ComplexSample}
+use Rattle.dsp_types.specs.Samples.{silence, ago}
+use Rattle.dsp_types.specs.Ring.{ringAt, ringSample, newest}
+use Rattle.history.specs.declared.History.{History}
+
+-- the elements of a ring whose newest stands at `at`
+unfoldable pub heldIn : List Float → ℕ → List Float
+heldIn ring at = newest 2048 (ringAt nan 2048 ring (at % 2048))
+
+-- the samples of two such rings
+unfoldable pub samplesIn : List Float → List Float → ℕ → List ComplexSample
+samplesIn re im at = newest 2048 (ringSample 2048 re im (at % 2048))
+
+-- the samples of the past
+abbrev pub pastOf : History → List ComplexSample
+pastOf h = samplesIn (h .re) (h .im) (h .index)
+
+-- their magnitudes
+abbrev pub absOf : History → List Float
+absOf h = heldIn (h .abs) (h .index)
+
+-- the newest 2,048 after xs, oldest first, are written one by one
+unfoldable pub heldAfter : {A : Type 0} → List A → List A → List A
+heldAfter held [] = held
+heldAfter held (x ∷ xs) = heldAfter (take 2048 (x ∷ held)) xs
+
+-- `past` is the newest 2,048 of ys, the list of all filtered samples so far, newest first
+pub record PastOf (past ys : List ComplexSample) : Type 0 where
+  pub held : past ≡ newest 2048 (ago silence ys)
+
+-- `abs` has the magnitude of each sample of the past, as `mag` gives it
+pub record AbsOf (mag : ComplexSample → Float) (past : List ComplexSample) (abs : List Float) : Type 0 where
+  pub held : abs ≡ map mag past

@@ -1,0 +1,82 @@
+-- A part of a sample as `magnitude` reads it: NaN, infinite, or a whole number of units. Assumes nothing.
+use mathlib.Core.Path.{_≡_, refl, sym, ap, _∙_, subst}
+use Prim.Native.Nat.{ℕ, _+_, _%_, _≤_, _<_}
+use native.Mathlib.Nat.{lt-irrefl, lt-of-not-le}
+use native.Mathlib.Omega.{arith}
+use mathlib.Core.Bool.{Bool, true, false, not, _&&_, cond, true≢false}
+use lib.Dec.{T, leb}
+use borrow.Author.Tests.{le-ltb}
+use lib.Ieee.{Float, nan, inf, fin, binary32, ne, isNan, nanBits, fits, ofBits, toBits}
+use lib.Ieee.Bits.{ofBits-toBits, nanBits-above, is-false}
+use lib.Ieee.Compare.{differs-from-itself}
+use lib.Ieee.Scale.{finite}
+use Rattle.magnitude.specs.Magnitude.{units, square, largest, magnitudeOf}
+use Rattle.magnitude.specs.Pattern.{sizeOf, sized}
+use Rattle.magnitude.proofs.Largest.{largest-lt}
+use Rattle.magnitude.proofs.Values.{Sized, sized-finite, sized-units, number-at, no-number-at}
+
+-- ---- NaN is what differs from itself
+pub nan-size : (x : Float) → ne x x ≡ true → 0x7f80_0000 ≡ sizeOf x
+unfolding sizeOf
+nan-size x e = rw (differs-from-itself x (subst T (sym e) tt))
+
+pub not-nan : (x : Float) → ne x x ≡ false → T (not (isNan x))
+unfolding ne isNan
+not-nan nan e = subst T e tt
+not-nan (inf s) e = tt
+not-nan (fin s m e') e = tt
+
+pub size-is : (x : Float) → T (not (isNan x)) → toBits binary32 x % 0x8000_0000 ≡ sizeOf x
+unfolding sizeOf
+size-is x h = rw (is-false (isNan x) h)
+
+-- ---- the size tells whether x is a number, and which
+pub no-number : (x : Float) → T (fits binary32 x) → 0x7f80_0000 ≤ sizeOf x → finite x ≡ false
+unfolding sizeOf
+no-number nan f h = refl
+no-number (inf s) f h = refl
+no-number (fin s m e) f h =
+    let x = fin s m e in
+    ap finite (sym (ofBits-toBits binary32 x f)) ∙ no-number-at (toBits binary32 x) h
+
+pub number : (x : Float) → T (fits binary32 x) → sizeOf x < 0x7f80_0000 → Sized x (leb 0x8000_0000 (toBits binary32 x)) (sized (sizeOf x))
+unfolding sizeOf
+number nan f h = absurd (lt-irrefl 0x7f80_0000 h)
+number (inf s) f h = rw ofBits-toBits at (number-at (toBits binary32 (inf s)) h)
+number (fin s m e) f h = rw ofBits-toBits at (number-at (toBits binary32 (fin s m e)) h)
+
+pub units-size : (x : Float) → T (fits binary32 x) → sizeOf x < 0x7f80_0000 → units x ≡ sized (sizeOf x)
+units-size x f h = sized-units x (leb 0x8000_0000 (toBits binary32 x)) (sized (sizeOf x)) (number x f h)
+
+pub size-lt : (x : Float) → T (fits binary32 x) → finite x ≡ true → sizeOf x < 0x7f80_0000
+size-lt x f h = lt-of-not-le (λ g. absurd (true≢false (sym h ∙ no-number x f g)))
+
+-- ---- the result
+pub zero-first : (re im : Float) → finite re ≡ false → magnitudeOf re im ≡ ofBits binary32 0
+unfolding magnitudeOf
+zero-first re im e = simp e
+
+pub zero-second : (re im : Float) → finite im ≡ false → magnitudeOf re im ≡ ofBits binary32 0
+unfolding magnitudeOf
+zero-second re im e = go (finite re)
+  where
+    go : (b : Bool) → cond (b && finite im) (ofBits binary32 (largest (square (units re) + square (units im)))) (ofBits binary32 0) ≡ ofBits binary32 0
+    go true = simp e
+    go false = refl
+
+pub two-numbers : (re im : Float) → finite re ≡ true → finite im ≡ true → magnitudeOf re im ≡ ofBits binary32 (largest (square (units re) + square (units im)))
+unfolding magnitudeOf
+two-numbers re im a b = simp (a, b)
+
+pub two-sizes : (re im : Float) (a b p : ℕ) → T (fits binary32 re) → T (fits binary32 im) → a ≡ sizeOf re → b ≡ sizeOf im → a < 0x7f80_0000 → b < 0x7f80_0000
+    → p ≡ largest (square (sized a) + square (sized b)) → ofBits binary32 p ≡ magnitudeOf re im
+two-sizes re im a b p f g A B h k e =
+    let x : sizeOf re < 0x7f80_0000 = rw A at h in
+    let y : sizeOf im < 0x7f80_0000 = rw B at k in
+    rw (two-numbers re im (sized-finite re _ _ (number re f x)) (sized-finite im _ _ (number im g y)), units-size re f x, units-size im g y, e, A, B)
+
+pub not-nan-bits : (n p : ℕ) → p ≡ largest n → T (not (nanBits binary32 p))
+not-nan-bits n p e =
+    let h : p < 0x7f80_0000 = rw e (largest-lt n) in
+    let m : p % 0x8000_0000 ≡ p = omega arith in
+    rw (nanBits-above, m, le-ltb 0x7f80_0000 p (omega arith)) tt

@@ -1,0 +1,151 @@
+// The stand-in for `abs()` (01, "The past"): the magnitude of a complex sample, cut to an f32.
+ghost use mathlib.Core.Path.{_≡_};
+ghost use Prim.Native.Nat.{_+_, _-_, _*_, _/_, _^_, _<_, _≤_, min, max};
+ghost use Rattle.magnitude.specs.Magnitude.{magnitudeOf, largest, square};
+ghost use Rattle.magnitude.specs.Pattern.{sizeOf, exponentOf, significandOf, sized, packedOf};
+
+// The bit pattern of x without its sign, or 0x7f80_0000 where x is NaN or infinite.
+fn size(x: f32) -> u32
+    ensures { λ r. ⌜ r ≡ sizeOf x ⌝ }
+{
+    if x != x {
+        0x7f80_0000
+    } else {
+        f32::to_bits(x) % 0x8000_0000
+    }
+}
+
+// The patterns below 0x7f80_0000 are the finite values that are not negative, in order. Such a pattern is
+// exponent * 2^23 + significand and stands for significand * 2^exponent units, a unit being 2^-149.
+fn exponent(p: u32) -> u32
+    ensures { λ r. ⌜ r ≡ exponentOf p ⌝ }
+{
+    if p < 0x80_0000 { 0 } else { p / 0x80_0000 - 1 }
+}
+
+fn significand(p: u32) -> u64
+    ensures { λ r. ⌜ r ≡ significandOf p ⌝ }
+{
+    if p < 0x80_0000 {
+        p as u64
+    } else {
+        0x80_0000 + (p % 0x80_0000) as u64
+    }
+}
+
+// n² / 4^gap, cut to a whole number.
+fn shifted_square(n: u64, gap: u32) -> u64
+    requires { ⌜ n < 2 ^ 24 ⌝ }
+    ensures { λ r. ⌜ r ≡ square n / 2 ^ (2 * gap) ⌝ }
+{
+    if gap < 25 { (n * n) >> (2 * gap) } else { 0 }
+}
+
+// The square root of s, cut to a whole number, by bisection.
+fn bisected_root(s: u64) -> u64
+    requires { ⌜ s < 2 ^ 50 ⌝ }
+    ensures { λ r. ⌜ (square r ≤ s) × (s < square (r + 1)) ⌝ }
+{
+    let mut low: u64 = 0;
+    let mut high: u64 = 0x200_0000;
+    while high - low > 1 {
+        let middle = low + (high - low) / 2;
+        if middle * middle <= s {
+            low = middle;
+        } else {
+            high = middle;
+        }
+    }
+    low
+}
+
+// A guess at the square root of s = m² + z, for z ≤ m²: a chord of the root, then two of Newton's steps.
+fn guessed_root(m: u64, z: u64, s: u64) -> u64
+    requires { ⌜ (m < 2 ^ 24) × (z < 2 ^ 48) × (s < 2 ^ 49) ⌝ }
+{
+    if m == 0 {
+        return 0;
+    }
+    let a = m + z / m * 106 / 256;
+    let b = (a + s / a) / 2 + 1;
+    (b + s / b) / 2
+}
+
+// The square root of m² + z, cut to a whole number: the guess, or one less where it is too large. Nothing is
+// proved of the guess, so what comes of it is tested; it passed for all that were tried, and else bisection decides.
+fn root(m: u64, z: u64) -> u64
+    requires { ⌜ (m < 2 ^ 24) × (z < 2 ^ 48) ⌝ }
+    ensures { λ r. ⌜ (square r ≤ square m + z) × (square m + z < square (r + 1)) ⌝ }
+{
+    let s = m * m + z;
+    let g = guessed_root(m, z, s);
+    if g < 0x1ff_ffff {
+        let r = if g * g <= s { g } else { g - 1 };
+        if r * r <= s {
+            if s < (r + 1) * (r + 1) {
+                return r;
+            }
+        }
+    }
+    bisected_root(s)
+}
+
+// The largest pattern that stands for at most g * 2^e units.
+fn packed(e: u32, g: u64) -> u32
+    requires { ⌜ (e < 254) × (g < 2 ^ 25) ⌝ }
+    ensures { λ r. ⌜ r ≡ packedOf e g ⌝ }
+{
+    let p = if g < 0x100_0000 {
+        e * 0x80_0000 + g as u32
+    } else {
+        (e + 1) * 0x80_0000 + (g / 2) as u32
+    };
+    if p < 0x7f80_0000 { p } else { 0x7f7f_ffff }
+}
+
+// The pattern of the magnitude from those of the two parts, the larger first. In units of 2^e, e being the
+// larger part's exponent, the whole part of the square root has at most 25 digits.
+fn larger_first(a: u32, b: u32) -> u32
+    requires { ⌜ (b ≤ a) × (a < 0x7f80_0000) ⌝ }
+    ensures { λ r. ⌜ r ≡ largest (square (sized a) + square (sized b)) ⌝ }
+{
+    let e = exponent(a);
+    let m = significand(a);
+    let z = shifted_square(significand(b), e - exponent(b));
+    packed(e, root(m, z))
+}
+
+// The parts by size. As in `root` and `packed`, a choice that samples make at random is compiled without a branch.
+fn larger(a: u32, b: u32) -> u32
+    ensures { λ r. ⌜ r ≡ max a b ⌝ }
+{
+    if a < b { b } else { a }
+}
+
+fn smaller(a: u32, b: u32) -> u32
+    ensures { λ r. ⌜ r ≡ min a b ⌝ }
+{
+    if a < b { a } else { b }
+}
+
+fn pattern(a: u32, b: u32) -> u32
+    requires { ⌜ (a < 0x7f80_0000) × (b < 0x7f80_0000) ⌝ }
+    ensures { λ r. ⌜ r ≡ largest (square (sized a) + square (sized b)) ⌝ }
+{
+    larger_first(larger(a, b), smaller(a, b))
+}
+
+// The largest f32 whose square is not above re² + im²; 0.0 where a part is NaN or infinite.
+pub fn magnitude(re: f32, im: f32) -> f32
+    ensures { λ r. ⌜ r ≡ magnitudeOf re im ⌝ }
+{
+    let a = size(re);
+    let b = size(im);
+    if a >= 0x7f80_0000 {
+        return 0.0;
+    }
+    if b >= 0x7f80_0000 {
+        return 0.0;
+    }
+    f32::from_bits(pattern(a, b))
+}

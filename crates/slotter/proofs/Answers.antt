@@ -1,0 +1,38 @@
+-- A builder's answer from its parts.
+use mathlib.Core.Path.{_≡_, refl, sym, ap, _∙_}
+use mathlib.Core.List.{List, [], _∷_, _++_}
+use Prim.Native.Nat.{ℕ, zero, suc, _≤_}
+use native.Mathlib.Omega.{arith}
+use lib.IntN.{ℤ}
+use lib.ListN.{length, take, drop}
+use Rattle.slotter.specs.declared.Burst.{Burst}
+use Rattle.slotter.specs.declared.Answer.the-variants.{Built, Refused}
+use Rattle.train_consts.specs.Training.{normal3}
+use Rattle.slotter.specs.Phases.{phaseSum, adjustment}
+use Rattle.slotter.specs.Bursts.{firstWindow, lastWindow, downlink, Told, told, refusal, answered}
+
+-- the burst of those fields, from its sums and its adjustment bits
+pub built : (last : ℕ) (fields : List ℕ) {a b : ℤ} {x y bits : List ℕ} → a ≡ phaseSum (firstWindow last fields) → b ≡ phaseSum (lastWindow last fields)
+    → x ≡ adjustment a → y ≡ adjustment b → bits ≡ drop 10 normal3 ++ x ++ fields ++ y ++ take 10 normal3
+    → told (record { answer = Built a b; bits = bits }) ≡ answered 0 last fields
+unfolding told answered downlink
+built last fields e f g h p = rw (p, g, h, e, f)
+
+-- an answer with the number n, which is not 0, or is
+pub refuses : {t : Told} {k : ℕ} (n last : ℕ) (fields : List ℕ) → k ≡ n → (k ≡ 0 → ⊥) → t ≡ refusal k → t ≡ answered n last fields
+unfolding answered
+refuses zero last fields e h p = absurd (h e)
+refuses (suc n) last fields e h p = p ∙ ap refusal e
+
+pub accepts : {t : Told} {k : ℕ} (n last : ℕ) (fields : List ℕ) → k ≡ n → k ≡ 0 → t ≡ answered 0 last fields → t ≡ answered n last fields
+accepts n last fields e h p = p ∙ ap (λ (m : ℕ). answered m last fields) (sym h ∙ e)
+
+-- the number and the bits of an answer
+pub answered-number : (n last : ℕ) (fields : List ℕ) → answered n last fields .number ≡ n
+unfolding answered refusal
+answered-number zero last fields = refl
+answered-number (suc n) last fields = refl
+
+pub answered-bits : (n last : ℕ) (fields : List ℕ) → n ≡ 0 → answered n last fields .bits ≡ downlink last fields
+unfolding answered
+answered-bits n last fields e = rw e

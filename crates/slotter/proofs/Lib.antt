@@ -1,0 +1,8 @@
+pub mod Adjustment
+mod Phase
+mod Folding
+pub mod Windows
+mod Fields
+mod Refusal
+mod Answers
+pub mod Places

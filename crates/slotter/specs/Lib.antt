@@ -1,0 +1,3 @@
+pub mod Phases
+pub mod Bursts
+pub mod Places

@@ -1,0 +1,6 @@
+pub mod Within
+pub mod Cases
+pub mod Law
+pub mod Parts
+pub mod Tracking
+pub mod Exact

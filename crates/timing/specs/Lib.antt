@@ -1,0 +1,4 @@
+pub mod Floats
+pub mod Turns
+pub mod Document
+pub mod Tracking
