@@ -1,8 +1,8 @@
--- One part of a block: the row that is made of the line and the block, and what is read of it. Assumes nothing.
+-- Blocks: what is read of the row that is made of the line and the block, and that rows of both parts are the samples one by one. Assumes nothing.
 use mathlib.Core.Path.{_≡_, refl, sym, ap, _∙_}
 use mathlib.Core.List.{List, [], _∷_, _++_, append-nil}
-use Prim.Native.Nat.{ℕ, zero, suc, _+_, _-_, _<_, _≤_, min}
 use mathlib.Core.Logic.{⊎-elim}
+use Prim.Native.Nat.{ℕ, zero, suc, _+_, _-_, _<_, _≤_, min}
 use native.Mathlib.Nat.{zero-min, min-zero, suc-min-suc}
 use native.Mathlib.Omega.{arith}
 use native.Mathlib.Numerals.{one-add}

@@ -1,3 +1,3 @@
-mod Rows
-mod Blocks
+pub mod Rows
+pub mod Blocks
 pub mod Laws

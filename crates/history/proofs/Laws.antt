@@ -2,7 +2,7 @@
 -- Those of rings are over any length: at 2,048 they are only applied. Assumes nothing.
 use mathlib.Core.Path.{_≡_, refl, sym, ap, _∙_}
 use mathlib.Core.List.{List, [], _∷_, _++_, map, reverseAux}
-use Prim.Native.Nat.{ℕ, zero, suc, _+_, _-_, _%_, _<_, _≤_}
+use Prim.Native.Nat.{ℕ, zero, suc, _+_, _-_, _%_, _<_}
 use native.Mathlib.Nat.{mod-lt, mod-eq-of-lt, mod-mod}
 use native.Mathlib.Omega.{arith}
 use native.Mathlib.Numerals.{add-one}
@@ -12,7 +12,7 @@ use lib.Seq.{take-suc}
 use lib.Ieee.{Float, nan}
 use Rattle.dsp_types.specs.declared.ComplexSample.{ComplexSample}
 use Rattle.dsp_types.specs.Samples.{zeroF, silence, ago}
-use Rattle.dsp_types.specs.Ring.{slot, ringAt, ringSample, next, Agree, newest, newest-newer, newer-ago, ring-newer, sample-newer, ring-zeros, sample-zeros}
+use Rattle.dsp_types.specs.Ring.{slot, ringAt, ringSample, next, Agree, newest, newest-newer, newer-ago, ring-newer, sample-newer}
 use Rattle.history.specs.History.{heldIn, samplesIn, heldAfter, PastOf, AbsOf}
 
 -- ---- records written out as lists

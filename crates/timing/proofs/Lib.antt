@@ -4,3 +4,4 @@ pub mod Law
 pub mod Parts
 pub mod Tracking
 pub mod Exact
+pub mod Window

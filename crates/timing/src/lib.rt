@@ -1,4 +1,7 @@
 // Symbol timing (01, "Symbol timing"): the direction of the sums i and q in quarter turns, and its parts.
+mod estimate;
+
+pub use estimate::estimate_timing;
 ghost use mathlib.Core.Path.{_≡_};
 ghost use lib.Ieee.{lt};
 ghost use lib.Ieee.Scale.{finite};

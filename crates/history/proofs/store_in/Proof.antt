@@ -1,5 +1,5 @@
 -- `history::store_in` meets its contract. The loop's invariant: the first n elements are written.
-use mathlib.Core.Path.{_≡_, refl, _∙_}
+use mathlib.Core.Path.{_≡_, _∙_}
 use Prim.Native.Nat.{_+_, _≤_, _-_, _%_}
 use native.Mathlib.Omega.{arith}
 use lib.ListN.{length, take}

@@ -1,7 +1,7 @@
 -- `fir::FirComplexSym::block` meets its contract: both parts take as many samples as all four slices have.
 use mathlib.Core.Path.{_≡_, sym, ap, _∙_}
 use mathlib.Core.List.{List}
-use Prim.Native.Nat.{_≤_, min}
+use Prim.Native.Nat.{min}
 use native.Mathlib.Omega.{arith}
 use lib.ListN.{length, take}
 use lib.Seq.{length-take-le}
