@@ -1,0 +1,482 @@
+-- One accepted sample: the receiver does what the account does. The invariant has three states: searching, just locked (the slot's
+-- ready time lies in the past until the next sample skips a slot), and locked.
+use mathlib.Core.Path.{_≡_, refl, ap, sym, _∙_}
+use mathlib.Core.Bool.{Bool, true, false, cond}
+use mathlib.Core.List.{List, [], _∷_, _++_}
+use Prim.Native.Nat.{ℕ, zero, suc, _+_, _*_, _%_, _≤_, _<_}
+use native.Mathlib.Omega.{arith}
+use native.Mathlib.Nat.{mod-eq-of-lt}
+use lib.IntN.{ℤ, pos, negsuc, _+ℤ_, _-ℤ_}
+use lib.Dec.{ltb, leb, eqb}
+use lib.Ieee.{Float, binary32, sub}
+use lib.ListN.{length}
+use borrow.Author.Tests.{le-leb, eqb-true, eqb-false, ne-eqb, lt-ltb, le-ltb, leb-true, leb-false}
+use Rattle.dsp_types.specs.declared.ComplexSample.{ComplexSample}
+use Rattle.dsp_types.specs.Ints.{up, dn, sum, eqZ, above-zero}
+use Rattle.dsp_types.specs.Times.{slots, slotOf}
+use Rattle.timing.specs.Floats.{oneF}
+use Rattle.timing.specs.Tracking.{late, early, loweredOf, settledOf}
+use Rattle.burst_finder.specs.declared.SlotType.the-variants as SlotType
+use Rattle.burst_finder.specs.Search.{findSync}
+use Rattle.burst_finder.specs.Slots.{notFound, getBurst}
+use Rattle.demodulator.specs.Signal.{Signal, hear, bitsOf}
+use Rattle.demodulator.specs.Receiver as R
+use Rattle.demodulator.specs.declared.Mode.{Mode}
+use Rattle.demodulator.specs.declared.Mode.the-variants.{DlUnsynchronized, Dl}
+use Rattle.demodulator.specs.Receiver.{Clock, Lock, HandedSlot, Receiver, slotTiming, far, slotsToSkip, listen, closeWindow, processSample, setSlot, withClock, addSlots}
+use Rattle.demodulator.specs.Calls.{BurstView, burstView, viewIn}
+use Rattle.demodulator.specs.Windows.{Kind, quiet, lock, slot, Window, kindOf, searchKind, windowOf, windowIf}
+use Rattle.account.specs.Rules.{typeOf, slotView, nextMisses, nextNumber, searchOn, locked, handed}
+use Rattle.account.specs.Tracked.{Tracked, windowBits, gapOf, slotGap, errorAfter, searchTurn, slotTurn, windowTurn, turnIf, turn}
+use Rattle.account.specs.Account.{Waiting, nothing, waits, changed, noView}
+use Rattle.account.proofs.Laws.{not-late, not-early, Placed, placed}
+use Rattle.account.proofs.Times.{near, past, skips-one, closes-yes, closes-no, ready-parts, next-slot, first-slot, found-parts}
+
+-- what waits after some windows more, the last first
+unfoldable pub over : List Window → Waiting → Waiting
+over [] v = v
+over (w ∷ ws) v = changed (w .kind) (over ws v)
+
+-- ---- the invariant: mode, slot timing and lock before the sample with the counter n
+
+pub record Search (m : Mode) (c : Clock) (n : ℕ) (t : Tracked) : Type 0 where
+  pub mode : m ≡ DlUnsynchronized
+  pub unlocked : t .account .locked ≡ false
+  pub above-zero : dn (c .slotReadyTime) ≡ 0
+  pub due : up (c .slotReadyTime) + 16 ≡ t .account .due
+  pub least : n ≤ t .account .due
+  pub most : t .account .due ≤ n + 1034
+  pub begun : 1019 ≤ t .account .due
+
+pub record Locked (m : Mode) (l : Lock) (t : Tracked) : Type 0 where
+  pub mode : m ≡ Dl
+  pub locked : t .account .locked ≡ true
+  pub lock : l ≡ record { timingError = t .error; misses = t .account .misses }
+
+pub record Fresh (c : Clock) (n : ℕ) (t : Tracked) : Type 0 where
+  pub current : c .currentSlot ≡ 0
+  pub number : t .account .number ≡ 1
+  pub ready : up (c .slotReadyTime) + 1036 ≡ t .account .due + dn (c .slotReadyTime)
+  pub reference : up (c .referenceTime) + 2054 ≡ t .account .due + dn (c .referenceTime)
+  pub least : n + 3 ≤ t .account .due
+  pub most : t .account .due ≤ n + 515
+  pub begun : 1019 ≤ t .account .due
+
+pub record Steady (c : Clock) (n : ℕ) (t : Tracked) : Type 0 where
+  pub current : c .currentSlot ≡ t .account .number
+  pub above-zero : dn (c .slotReadyTime) ≡ 0
+  pub due : up (c .slotReadyTime) + 16 ≡ t .account .due
+  pub reference : up (c .referenceTime) + t .account .number * 1020 + 1034 ≡ t .account .due + dn (c .referenceTime)
+  pub least : n ≤ t .account .due
+  pub most : t .account .due ≤ n + 1020
+  pub slow : t .account .number * 1019 ≤ t .account .due
+  pub begun : 1019 ≤ t .account .due
+
+pub data Timed (m : Mode) (c : Clock) (l : Lock) (n : ℕ) (t : Tracked) : Type 0 where
+  searching : Search m c n t → Timed m c l n t
+  fresh : Locked m l t → Fresh c n t → Timed m c l n t
+  steady : Locked m l t → Steady c n t → Timed m c l n t
+
+-- ---- the handed slot is what waits
+
+abbrev pub Stands : HandedSlot → Waiting → Type 0
+Stands h nothing = h .available ≡ false
+Stands h (waits n v) = (h .available ≡ true) × (h .time ≡ n) × (burstView 510 (h .full) ≡ v)
+
+pub record Waits (h : HandedSlot) (v : Waiting) : Type 0 where
+  pub stands : Stands h v
+  pub subslot1 : burstView 254 (h .subslot1) ≡ noView 254
+  pub subslot2 : burstView 254 (h .subslot2) ≡ noView 254
+
+-- nothing found, in a slot's bytes and in half a slot's
+no-view : (bits : List ℕ) → burstView 510 (record { bits = bits; finding = notFound }) ≡ noView 510
+unfolding burstView viewIn noView notFound getBurst
+no-view bits = rw (le-leb 0 (length bits) (omega arith))
+
+pub no-half-view : (bits : List ℕ) → burstView 254 (record { bits = bits; finding = notFound }) ≡ noView 254
+unfolding burstView viewIn noView notFound getBurst
+no-half-view bits = rw (le-leb 0 (length bits) (omega arith))
+
+module _ (h : HandedSlot) (s : Signal) where
+  emptied-quiet : (v : Waiting) → Waits h v → Waits (R.emptied h (h .time) s) (changed quiet v)
+  unfolding R.emptied R.searched changed
+  emptied-quiet nothing w = record { stands = w .stands; subslot1 = w .subslot1; subslot2 = w .subslot2 }
+  emptied-quiet (waits n v) w = record { stands = (w .stands .0, w .stands .1, no-view (bitsOf s 1024 256)); subslot1 = w .subslot1; subslot2 = w .subslot2 }
+
+  emptied-lock : (v : Waiting) → Waits h v → Waits (R.emptied h 0 s) (changed lock v)
+  unfolding R.emptied R.searched changed
+  emptied-lock nothing w = record { stands = w .stands; subslot1 = w .subslot1; subslot2 = w .subslot2 }
+  emptied-lock (waits n v) w = record { stands = (w .stands .0, refl, no-view (bitsOf s 1024 256)); subslot1 = w .subslot1; subslot2 = w .subslot2 }
+
+  handed-waits : (k j : ℕ) (v : Waiting) → k ≡ j → Waits h v → Waits (R.handed h k (R.checked SlotType.Dl s 1024 256)) (changed (slot j (slotView (windowBits s))) v)
+  unfolding R.handed R.checked changed slotView
+  handed-waits k j v e w = record { stands = (refl, e, refl); subslot1 = w .subslot1; subslot2 = w .subslot2 }
+
+-- a sample with the counter n takes r to r′, closing the windows w
+pub record Stepped (r r′ : Receiver) (w : List Window) (n : ℕ) (s : Signal) (t t′ : Tracked) : Type 0 where
+  pub timed : Timed (r′ .mode) (r′ .clock) (r′ .lock) (suc n) t′
+  pub signal : r′ .signal ≡ s
+  pub windows : w ++ t .account .windows ≡ t′ .account .windows
+  pub waiting : (v : Waiting) → Waits (r .slot) v → Waits (r′ .slot) (over w v)
+
+-- ---- `processSample` in its three ways
+module _ (r : Receiver) (x : ComplexSample) (n : ℕ) where
+  passes : far (pos n -ℤ pos 16 -ℤ r .clock .slotReadyTime) ≡ false → eqZ (pos n -ℤ pos 16) (r .clock .slotReadyTime) ≡ false
+      → (processSample r x (pos n) ≡ listen r x) × (windowOf r x (pos n) ≡ [])
+  unfolding processSample windowOf windowIf R.arrived R.tdiff R.skipIf R.closes R.closeIf listen
+  passes e f = (rw (e, f), rw (e, f))
+
+  shuts : far (pos n -ℤ pos 16 -ℤ r .clock .slotReadyTime) ≡ false → eqZ (pos n -ℤ pos 16) (r .clock .slotReadyTime) ≡ true
+      → (processSample r x (pos n) ≡ closeWindow (listen r x))
+      × (windowOf r x (pos n) ≡ record { counter = n; kind = kindOf (r .mode) (closeWindow (listen r x)) } ∷ [])
+  unfolding processSample windowOf windowIf R.arrived R.tdiff R.skipIf R.closes R.closeIf listen
+  shuts e f = (rw (e, f), rw (e, f))
+
+  skips : far (pos n -ℤ pos 16 -ℤ r .clock .slotReadyTime) ≡ true → slotsToSkip (pos n -ℤ pos 16 -ℤ r .clock .slotReadyTime) ≡ pos 1
+      → eqZ (pos n -ℤ pos 16) (addSlots (r .mode) (r .clock) (pos 1) .slotReadyTime) ≡ false
+      → (processSample r x (pos n) ≡ withClock (listen r x) (addSlots (r .mode) (r .clock) (pos 1))) × (windowOf r x (pos n) ≡ [])
+  unfolding processSample windowOf windowIf R.arrived R.tdiff R.skipIf R.closes R.closeIf listen withClock
+  skips e s f = (rw (e, s, f), rw (e, s, f))
+
+-- ---- a locked receiver's slot timing: the two tests move the reference time by at most one, and the next slot with it. No float is looked at
+unfoldable pub shift : (late early : Bool) → ℤ → ℤ
+shift true true z = z +ℤ pos 1 +ℤ negsuc 0
+shift true false z = z +ℤ pos 1
+shift false true z = z +ℤ negsuc 0
+shift false false z = z
+
+unfoldable pub shifted : Float → ℤ → ℤ
+shifted e z = shift (late e) (early (loweredOf e)) z
+
+shift-parts : (a b : Bool) (z : ℤ) → up (shift a b z) + dn z + 1020 ≡ dn (shift a b z) + up z + gapOf a b
+unfolding shift gapOf
+shift-parts true true z = omega (arith, sum z (pos 1), sum (z +ℤ pos 1) (negsuc 0))
+shift-parts true false z = omega (arith, sum z (pos 1))
+shift-parts false true z = omega (arith, sum z (negsuc 0))
+shift-parts false false z = omega arith
+
+pub shifted-parts : (e : Float) (z : ℤ) → up (shifted e z) + dn z + 1020 ≡ dn (shifted e z) + up z + slotGap e
+unfolding shifted slotGap
+shifted-parts e z = shift-parts (late e) (early (loweredOf e)) z
+
+pub gap-span : (e : Float) → (1019 ≤ slotGap e) × (slotGap e ≤ 1021)
+unfolding slotGap gapOf
+gap-span e = go (late e) (early (loweredOf e))
+  where
+    go : (a b : Bool) → (1019 ≤ gapOf a b) × (gapOf a b ≤ 1021)
+    go true true = omega arith
+    go true false = omega arith
+    go false true = omega arith
+    go false false = omega arith
+
+-- a receiver after its slot's window: the next slot, with the reference time moved
+unfoldable pub advanced : Receiver → Receiver
+advanced r =
+    record {
+      mode = r .mode;
+      clock = setSlot (r .mode) (shifted (r .lock .timingError) (r .clock .referenceTime)) (slotOf (pos (r .clock .currentSlot) +ℤ pos 1));
+      lock = record { timingError = settledOf (r .lock .timingError); misses = r .lock .misses };
+      slot = r .slot;
+      next = r .next;
+      signal = r .signal;
+    }
+
+advance-by : (r : Receiver) (a b : Bool) → late (r .lock .timingError) ≡ a → early (cond a (sub binary32 (r .lock .timingError) oneF) (r .lock .timingError)) ≡ b
+    → R.nextSlot (R.trackedSooner (R.trackedLater r)) ≡ advanced r
+unfolding R.nextSlot withClock addSlots R.trackedSooner R.trackedLater R.sooner R.later R.moved advanced shifted shift settledOf loweredOf setSlot
+advance-by r true true p q = rw (p, q)
+advance-by r true false p q = rw (p, q)
+advance-by r false true p q = rw (p, q)
+advance-by r false false p q = rw (p, q)
+
+pub advances : (r : Receiver) → R.nextSlot (R.trackedSooner (R.trackedLater r)) ≡ advanced r
+advances r = advance-by r (late (r .lock .timingError)) (early (cond (late (r .lock .timingError)) (sub binary32 (r .lock .timingError) oneF) (r .lock .timingError))) refl refl
+
+-- ---- a window closes, in its four ways
+module _ (r : Receiver) where
+  -- a search window that finds nothing
+  unfoldable stayed : Receiver
+  stayed = withClock (R.notFoundYet r) (R.searchOn (r .clock))
+
+  close-stays : r .mode ≡ DlUnsynchronized → leb (findSync (windowBits (r .signal)) .dist) 1 ≡ false → closeWindow r ≡ stayed
+  unfolding closeWindow R.processed R.processPastSamples R.searchWindow R.notFoundYet R.schedule stayed
+  close-stays m e = rw (m, e)
+
+  -- one that finds the sequence
+  unfoldable found : Receiver
+  found = withClock (R.found r (findSync (windowBits (r .signal)) .pos)) (setSlot Dl (R.found r (findSync (windowBits (r .signal)) .pos) .clock .referenceTime) 0)
+
+  close-locks : r .mode ≡ DlUnsynchronized → leb (findSync (windowBits (r .signal)) .dist) 1 ≡ true → closeWindow r ≡ found
+  unfolding closeWindow R.processed R.processPastSamples R.searchWindow R.found R.schedule R.nextSlot R.trackedSooner R.trackedLater R.sooner R.later addSlots setSlot found
+  close-locks m e = rw (m, e, not-late (r .signal), not-early (r .signal), first-slot)
+
+  -- a locked window: the slot is handed over
+  abbrev type : ℕ
+  type = typeOf (windowBits (r .signal))
+
+  unfoldable handed-over : Mode → Receiver
+  handed-over m =
+      record {
+        mode = m;
+        clock = r .clock;
+        lock = record { timingError = errorAfter type (r .lock .timingError) (slotTiming (r .signal)); misses = nextMisses type (r .lock .misses) };
+        slot = R.handed (r .slot) (r .clock .currentSlot) (R.checked SlotType.Dl (r .signal) 1024 256);
+        next = r .next;
+        signal = r .signal;
+      }
+
+  lock-is : (k : ℕ) → R.lockAfter (r .lock) (slotTiming (r .signal)) k ≡ record { timingError = errorAfter k (r .lock .timingError) (slotTiming (r .signal)); misses = nextMisses k (r .lock .misses) }
+  unfolding R.lockAfter errorAfter nextMisses
+  lock-is zero = refl
+  lock-is (suc k) = refl
+
+  hands-over : (m : Mode) → r .mode ≡ Dl → R.modeAfter (nextMisses type (r .lock .misses)) ≡ m → R.processed r ≡ handed-over m
+  unfolding R.processed R.processPastSamples R.downlinkWindow handed-over typeOf
+  hands-over m e f = rw (e, lock-is type, f)
+
+  close-keeps : r .mode ≡ Dl → leb 100 (nextMisses type (r .lock .misses)) ≡ false → closeWindow r ≡ advanced (handed-over Dl)
+  unfolding closeWindow R.schedule R.modeAfter handed-over
+  close-keeps m e = rw (hands-over Dl m (rw e)) (advances (handed-over Dl))
+
+  close-loses : r .mode ≡ Dl → leb 100 (nextMisses type (r .lock .misses)) ≡ true
+      → closeWindow r ≡ withClock (handed-over DlUnsynchronized) (R.searchOn (r .clock))
+  unfolding closeWindow R.schedule R.modeAfter handed-over
+  close-loses m e = rw (hands-over DlUnsynchronized m (rw e))
+
+-- ---- the account's ways
+module _ (t : Tracked) (n : ℕ) (s : Signal) where
+  pub turn-no : eqb n (t .account .due) ≡ false → turn t n s ≡ t
+  unfolding turn turnIf
+  turn-no e = rw e
+
+  pub turn-search : (b : Bool) → eqb n (t .account .due) ≡ true → t .account .locked ≡ false → leb (findSync (windowBits s) .dist) 1 ≡ b
+      → turn t n s ≡ searchTurn b (findSync (windowBits s) .pos) t n (slotTiming s)
+  unfolding turn turnIf windowTurn
+  turn-search b e f g = rw (e, f, g)
+
+  pub turn-slot : (b : Bool) → eqb n (t .account .due) ≡ true → t .account .locked ≡ true → ltb (nextMisses (typeOf (windowBits s)) (t .account .misses)) 100 ≡ b
+      → turn t n s ≡ slotTurn b (windowBits s) t n (errorAfter (typeOf (windowBits s)) (t .error) (slotTiming s))
+  unfolding turn turnIf windowTurn
+  turn-slot b e f g = rw (e, f, g)
+
+-- ---- one sample
+assemble : {r r₁ r₂ : Receiver} {w₁ w₂ : List Window} {n : ℕ} {s : Signal} {t t₁ t₂ : Tracked} → r₁ ≡ r₂ → w₁ ≡ w₂ → t₁ ≡ t₂
+    → Stepped r r₂ w₂ n s t t₂ → Stepped r r₁ w₁ n s t t₁
+assemble p q s u = rw (p, q, s) u
+
+-- the kind of a window, from the mode before it closed and the receiver after
+kind-quiet : (m : Mode) (c r : Receiver) → m ≡ DlUnsynchronized → c ≡ r → r .mode ≡ DlUnsynchronized → kindOf m c ≡ quiet
+unfolding kindOf searchKind
+kind-quiet m c r p q e = rw (p, q, e)
+
+kind-lock : (m : Mode) (c r : Receiver) → m ≡ DlUnsynchronized → c ≡ r → r .mode ≡ Dl → kindOf m c ≡ lock
+unfolding kindOf searchKind
+kind-lock m c r p q e = rw (p, q, e)
+
+kind-slot : (m : Mode) (c r : Receiver) (k : ℕ) (v : BurstView) → m ≡ Dl → c ≡ r → r .slot .time ≡ k → burstView 510 (r .slot .full) ≡ v → kindOf m c ≡ slot k v
+unfolding kindOf
+kind-slot m c r k v p q e f = rw (p, q, e, f)
+
+one-window : {w : List Window} {n : ℕ} {j k : Kind} → w ≡ record { counter = n; kind = j } ∷ [] → j ≡ k → w ≡ record { counter = n; kind = k } ∷ []
+one-window e f = rw (← f) e
+
+-- the slot's ready time, where the receiver is locked
+slot-ready : (z : ℤ) (s : ℕ) → up (setSlot Dl z s .slotReadyTime) + dn z ≡ dn (setSlot Dl z s .slotReadyTime) + up z + s * 1020 + 1018
+unfolding setSlot R.slotReadyFromBegin
+slot-ready z s = ready-parts z (s * 1020) 1018
+
+-- the next slot, where the count does not wrap
+to-next : (m : Mode) (c : Clock) (k : ℕ) → m ≡ Dl → c .currentSlot ≡ k → suc k < slots → addSlots m c (pos 1) ≡ setSlot Dl (c .referenceTime) (suc k)
+unfolding addSlots
+to-next m c k e f h =
+    let w : slotOf (pos (c .currentSlot) +ℤ pos 1) ≡ suc k = rw f (next-slot k h) in
+    rw (e, w)
+
+module _ (r : Receiver) (x : ComplexSample) (n : ℕ) (t : Tracked) where
+  abbrev s′ : Signal
+  s′ = hear (r .signal) x
+
+  abbrev Steps : Type 0
+  Steps = Stepped r (processSample r x (pos n)) (windowOf r x (pos n)) n s′ t (turn t n s′)
+
+  -- between two windows
+  search-passes : Search (r .mode) (r .clock) n t → eqb n (t .account .due) ≡ false → Steps
+  unfolding listen over
+  search-passes s e =
+      let ne : n ≡ t .account .due → ⊥ = eqb-false n (t .account .due) e in
+      let p = passes r x n (near n (r .clock .slotReadyTime) (omega (arith, s)) (omega (arith, s))) (closes-no n (r .clock .slotReadyTime) (λ h. ne (omega (arith, s)))) in
+      assemble (p .0) (p .1) (turn-no t n s′ e)
+      (record {
+        timed = searching (record { mode = s .mode; unlocked = s .unlocked; above-zero = s .above-zero; due = s .due; least = omega (arith, s, ne); most = omega (arith, s); begun = s .begun });
+        signal = refl;
+        windows = refl;
+        waiting = λ v h. h;
+      })
+
+  steady-passes : Locked (r .mode) (r .lock) t → Steady (r .clock) n t → eqb n (t .account .due) ≡ false → Steps
+  unfolding listen over
+  steady-passes l s e =
+      let ne : n ≡ t .account .due → ⊥ = eqb-false n (t .account .due) e in
+      let p = passes r x n (near n (r .clock .slotReadyTime) (omega (arith, s)) (omega (arith, s))) (closes-no n (r .clock .slotReadyTime) (λ h. ne (omega (arith, s)))) in
+      assemble (p .0) (p .1) (turn-no t n s′ e)
+      (record {
+        timed = steady l (record { current = s .current; above-zero = s .above-zero; due = s .due; reference = s .reference; least = omega (arith, s, ne); most = omega (arith, s); slow = s .slow; begun = s .begun });
+        signal = refl;
+        windows = refl;
+        waiting = λ v h. h;
+      })
+
+  -- a search window that finds nothing
+  search-stays : Search (r .mode) (r .clock) n t → eqb n (t .account .due) ≡ true → leb (findSync (windowBits s′) .dist) 1 ≡ false → Steps
+  unfolding listen stayed withClock R.notFoundYet R.searchOn over searchTurn
+  search-stays s e f =
+      let eq : n ≡ t .account .due = eqb-true n (t .account .due) e in
+      let z : ℤ = r .clock .slotReadyTime in
+      let q = shuts r x n (near n z (omega (arith, s)) (omega (arith, s))) (closes-yes n z (omega (arith, s))) in
+      let c = close-stays (listen r x) (s .mode) f in
+      let k = kind-quiet (r .mode) (closeWindow (listen r x)) (stayed (listen r x)) (s .mode) c (s .mode) in
+      let a : dn (z +ℤ pos 400) ≡ 0 = above-zero (z +ℤ pos 400) (omega (arith, sum z (pos 400), s)) in
+      assemble (q .0 ∙ c) (one-window (q .1) k) (turn-search t n s′ false e (s .unlocked) f)
+      (record {
+        timed = searching (record { mode = s .mode; unlocked = refl; above-zero = a; due = omega (arith, sum z (pos 400), s, a); least = omega arith; most = omega arith; begun = omega (arith, s) });
+        signal = refl;
+        windows = refl;
+        waiting = λ v h. emptied-quiet (r .slot) s′ v h;
+      })
+
+  -- a search window that locks
+  search-locks : Search (r .mode) (r .clock) n t → eqb n (t .account .due) ≡ true → leb (findSync (windowBits s′) .dist) 1 ≡ true → Steps
+  unfolding listen found withClock R.found setSlot R.slotReadyFromBegin over searchTurn
+  search-locks s e f =
+      let eq : n ≡ t .account .due = eqb-true n (t .account .due) e in
+      let z : ℤ = r .clock .slotReadyTime in
+      let q = shuts r x n (near n z (omega (arith, s)) (omega (arith, s))) (closes-yes n z (omega (arith, s))) in
+      let c = close-locks (listen r x) (s .mode) f in
+      let r′ : Receiver = found (listen r x) in
+      let k = kind-lock (r .mode) (closeWindow (listen r x)) r′ (s .mode) c refl in
+      let p : Placed (findSync (windowBits s′) .pos) = placed s′ in
+      let y = found-parts z (findSync (windowBits s′) .pos) (p .half) (p .even) (p .most) in
+      let u = ready-parts (r′ .clock .referenceTime) 0 1018 in
+      assemble (q .0 ∙ c) (one-window (q .1) k) (turn-search t n s′ true e (s .unlocked) f)
+      (record {
+        timed = fresh (record { mode = refl; locked = refl; lock = refl })
+            (record {
+              current = refl;
+              number = refl;
+              ready = omega (arith, y, u, s, p);
+              reference = omega (arith, y, s, p);
+              least = omega (arith, p);
+              most = omega (arith, p);
+              begun = omega (arith, s);
+            });
+        signal = refl;
+        windows = refl;
+        waiting = λ v h. emptied-lock (r .slot) s′ v h;
+      })
+
+  -- the first sample after a lock skips a slot
+  fresh-skips : Locked (r .mode) (r .lock) t → Fresh (r .clock) n t → Steps
+  unfolding listen withClock over setSlot
+  fresh-skips l s =
+      let z : ℤ = r .clock .slotReadyTime in
+      let c : Clock = setSlot Dl (r .clock .referenceTime) 1 in
+      let k : addSlots (r .mode) (r .clock) (pos 1) ≡ c = to-next (r .mode) (r .clock) 0 (l .mode) (s .current) (omega arith) in
+      let y = slot-ready (r .clock .referenceTime) 1 in
+      let no-close : eqZ (pos n -ℤ pos 16) (c .slotReadyTime) ≡ false = closes-no n (c .slotReadyTime) (λ h. omega (arith, h, y, s)) in
+      let p = skips r x n (past n z (omega (arith, s))) (skips-one n z (omega (arith, s)) (omega (arith, s))) (rw k no-close) in
+      let a : dn (c .slotReadyTime) ≡ 0 = above-zero (c .slotReadyTime) (omega (arith, y, s)) in
+      assemble (p .0 ∙ ap (withClock (listen r x)) k) (p .1) (turn-no t n s′ (ne-eqb n (t .account .due) (λ h. omega (arith, h, s))))
+      (record {
+        timed = steady l (record {
+          current = sym (s .number);
+          above-zero = a;
+          due = omega (arith, y, s, a);
+          reference = omega (arith, s);
+          least = omega (arith, s);
+          most = omega (arith, s);
+          slow = omega (arith, s);
+          begun = s .begun;
+        });
+        signal = refl;
+        windows = refl;
+        waiting = λ v h. h;
+      })
+
+  -- a locked window, the lock kept
+  slot-kept : Locked (r .mode) (r .lock) t → Steady (r .clock) n t → n < 137438953472 → eqb n (t .account .due) ≡ true
+      → leb 100 (nextMisses (typeOf (windowBits s′)) (r .lock .misses)) ≡ false → Steps
+  unfolding listen advanced handed-over over slotTurn nextNumber setSlot R.slotReadyFromBegin R.handed R.checked slotView
+  slot-kept l s few e f =
+      let eq : n ≡ t .account .due = eqb-true n (t .account .due) e in
+      let z : ℤ = r .clock .slotReadyTime in
+      let k : ℕ = t .account .number in
+      let type : ℕ = typeOf (windowBits s′) in
+      let error : Float = errorAfter type (r .lock .timingError) (slotTiming s′) in
+      let q = shuts r x n (near n z (omega (arith, s)) (omega (arith, s))) (closes-yes n z (omega (arith, s))) in
+      let c = close-keeps (listen r x) (l .mode) f in
+      let r′ : Receiver = advanced (handed-over (listen r x) Dl) in
+      let g = gap-span error in
+      let ge = ap (λ (y : Lock). slotGap (errorAfter type (y .timingError) (slotTiming s′))) (l .lock) in
+      let me = ap (λ (y : Lock). nextMisses type (y .misses)) (l .lock) in
+      let w : slotOf (pos (r .clock .currentSlot) +ℤ pos 1) ≡ suc k = rw (s .current) (next-slot k (omega (arith, s))) in
+      let nn : suc k % slots ≡ suc k = mod-eq-of-lt (omega (arith, s)) in
+      let y = slot-ready (shifted error (r .clock .referenceTime)) (suc k) in
+      let b = shifted-parts error (r .clock .referenceTime) in
+      let ready : ℤ = setSlot Dl (shifted error (r .clock .referenceTime)) (suc k) .slotReadyTime in
+      let a : dn ready ≡ 0 = above-zero ready (omega (arith, y, b, s, g)) in
+      assemble (q .0 ∙ c) (one-window (q .1) (kind-slot (r .mode) (closeWindow (listen r x)) r′ k (slotView (windowBits s′)) (l .mode) c (s .current) refl))
+      (turn-slot t n s′ true e (l .locked) (lt-ltb (nextMisses type (t .account .misses)) 100 (omega (arith, leb-false 100 (nextMisses type (r .lock .misses)) f, me))))
+      (record {
+        timed = steady (record { mode = refl; locked = refl; lock = ap (λ (y : Lock). record { timingError = settledOf (errorAfter type (y .timingError) (slotTiming s′)); misses = nextMisses type (y .misses) }) (l .lock) })
+            (rw w (record {
+              current = sym nn;
+              above-zero = a;
+              due = omega (arith, y, b, s, a, ge);
+              reference = omega (arith, b, s, ge, nn);
+              least = omega (arith, g, ge);
+              most = omega (arith, g, ge);
+              slow = omega (arith, g, ge, nn, s);
+              begun = omega (arith, s);
+            }));
+        signal = refl;
+        windows = refl;
+        waiting = λ v h. handed-waits (r .slot) s′ (r .clock .currentSlot) k v (s .current) h;
+      })
+
+  -- the hundredth miss
+  slot-loses : Locked (r .mode) (r .lock) t → Steady (r .clock) n t → eqb n (t .account .due) ≡ true
+      → leb 100 (nextMisses (typeOf (windowBits s′)) (r .lock .misses)) ≡ true → Steps
+  unfolding listen withClock handed-over R.searchOn over slotTurn R.handed R.checked slotView
+  slot-loses l s e f =
+      let eq : n ≡ t .account .due = eqb-true n (t .account .due) e in
+      let z : ℤ = r .clock .slotReadyTime in
+      let type : ℕ = typeOf (windowBits s′) in
+      let q = shuts r x n (near n z (omega (arith, s)) (omega (arith, s))) (closes-yes n z (omega (arith, s))) in
+      let c = close-loses (listen r x) (l .mode) f in
+      let r′ : Receiver = withClock (handed-over (listen r x) DlUnsynchronized) (R.searchOn (r .clock)) in
+      let me = ap (λ (y : Lock). nextMisses type (y .misses)) (l .lock) in
+      let a : dn (z +ℤ pos 400) ≡ 0 = above-zero (z +ℤ pos 400) (omega (arith, sum z (pos 400), s)) in
+      assemble (q .0 ∙ c) (one-window (q .1) (kind-slot (r .mode) (closeWindow (listen r x)) r′ (t .account .number) (slotView (windowBits s′)) (l .mode) c (s .current) refl))
+      (turn-slot t n s′ false e (l .locked) (le-ltb (nextMisses type (t .account .misses)) 100 (omega (arith, leb-true 100 (nextMisses type (r .lock .misses)) f, me))))
+      (record {
+        timed = searching (record { mode = refl; unlocked = refl; above-zero = a; due = omega (arith, sum z (pos 400), s, a); least = omega arith; most = omega arith; begun = omega (arith, s) });
+        signal = refl;
+        windows = refl;
+        waiting = λ v h. handed-waits (r .slot) s′ (r .clock .currentSlot) (t .account .number) v (s .current) h;
+      })
+
+  -- all together
+  pub stepped : Timed (r .mode) (r .clock) (r .lock) n t → n < 137438953472 → Steps
+  stepped (searching s) few = go (eqb n (t .account .due)) refl (leb (findSync (windowBits s′) .dist) 1) refl
+    where
+      go : (b : Bool) → eqb n (t .account .due) ≡ b → (d : Bool) → leb (findSync (windowBits s′) .dist) 1 ≡ d → Steps
+      go false e d f = search-passes s e
+      go true e false f = search-stays s e f
+      go true e true f = search-locks s e f
+  stepped (fresh l s) few = fresh-skips l s
+  stepped (steady l s) few = go (eqb n (t .account .due)) refl (leb 100 (nextMisses (typeOf (windowBits s′)) (r .lock .misses))) refl
+    where
+      go : (b : Bool) → eqb n (t .account .due) ≡ b → (d : Bool) → leb 100 (nextMisses (typeOf (windowBits s′)) (r .lock .misses)) ≡ d → Steps
+      go false e d f = steady-passes l s e
+      go true e false f = slot-kept l s few e f
+      go true e true f = slot-loses l s e f

@@ -1,0 +1,5 @@
+pub mod CallList
+pub mod Reachable
+pub mod Rules
+pub mod Tracked
+pub mod Account

@@ -1,0 +1,24 @@
+-- `sums::slots_long` meets its contract.
+use Prim.Native.Nat.{_*_}
+use native.Mathlib.Omega.{arith}
+use mir.Syntax.{w64}
+use mir.ValLaws.{toZ-pos}
+use borrow.Author.Needs.{needs}
+use Rattle.demodulator.proofs.sums.slots_long.Statement.{statement}
+use Rattle.demodulator.proofs.sums.slots_long.Tie as tie
+use Rattle.demodulator.proofs.sums.slots_long.Reads as reads
+use Rattle.demodulator.proofs.sums.slots_long.Lts as lts
+
+mul-result : tie.Need-mul-result
+mul-result c = search needs
+
+cast-result : tie.Need-cast-result
+cast-result c = search needs
+
+returns : tie.Need-returns
+returns c =
+    let n = c .args .slots in
+    toZ-pos w64 (n * 1020) (omega arith)
+
+pub slots-long-spec : {M : Type 1} → statement M
+slots-long-spec = tie.close (tie.spec mul-result cast-result returns)

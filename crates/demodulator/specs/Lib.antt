@@ -1,0 +1,6 @@
+pub mod Signal
+pub mod Receiver
+pub mod Calls
+pub mod Windows
+pub mod View
+pub mod Bounds

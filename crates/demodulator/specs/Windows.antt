@@ -1,0 +1,55 @@
+-- Which windows a sample closes (01, "The receiver"). Definitions only. Windows stand the last first.
+use Prim.Native.Nat.{ℕ, zero, suc}
+use mathlib.Core.Bool.{Bool, true, false}
+use mathlib.Core.List.{List, [], _∷_, _++_}
+use lib.IntN.{ℤ, pos, natAbs, _-ℤ_}
+use Rattle.dsp_types.specs.declared.ComplexSample.{ComplexSample}
+use Rattle.dsp_types.specs.Samples.{silence}
+use Rattle.demodulator.specs.declared.Mode.{Mode}
+use Rattle.demodulator.specs.declared.Mode.the-variants.{Idle, DlUnsynchronized, Dl, Ul}
+use Rattle.demodulator.specs.Receiver.{Receiver, processSample, arrived, closes, closeWindow}
+use Rattle.demodulator.specs.Calls.{BurstView, burstView, valid, validCount, sampleRefusal, missing, feedZeros, unless}
+
+-- a search window that leaves the receiver searching, one that it locks on, or a slot that is handed over with its number and its
+-- full slot's view. (An idle receiver's window is read by nobody: `quiet`.)
+pub data Kind : Type 0 where
+  quiet lock : Kind
+  slot : ℕ → BurstView → Kind
+
+pub record Window : Type 0 where
+  pub counter : ℕ
+  pub kind : Kind
+
+-- a search window, by the mode after it
+unfoldable pub searchKind : Mode → Kind
+searchKind Idle = quiet
+searchKind DlUnsynchronized = quiet
+searchKind Dl = lock
+searchKind Ul = quiet
+
+-- what the window was, by the mode before it closed and the receiver after
+unfoldable pub kindOf : Mode → Receiver → Kind
+kindOf Idle r = quiet
+kindOf DlUnsynchronized r = searchKind (r .mode)
+kindOf Dl r = slot (r .slot .time) (burstView 510 (r .slot .full))
+kindOf Ul r = slot (r .slot .time) (burstView 510 (r .slot .full))
+
+unfoldable pub windowIf : Bool → Receiver → ℤ → List Window
+windowIf true r c = record { counter = natAbs c; kind = kindOf (r .mode) (closeWindow r) } ∷ []
+windowIf false r c = []
+
+-- the window that one sample closes, if it does
+unfoldable pub windowOf : Receiver → ComplexSample → ℤ → List Window
+windowOf r x c = windowIf (closes (arrived r x c) c) (arrived r x c) c
+
+unfoldable pub zerosWindows : ℕ → Receiver → ℤ → List Window
+zerosWindows zero r c = []
+zerosWindows (suc k) r c = zerosWindows k (processSample r silence (c -ℤ pos (suc k))) c ++ windowOf r silence (c -ℤ pos (suc k))
+
+-- the windows that an accepted sample closes, those of the zeros before it included
+unfoldable pub acceptWindows : Receiver → ComplexSample → ℤ → List Window
+acceptWindows r x c = windowOf (feedZeros (missing (c -ℤ r .next)) r c) x c ++ zerosWindows (missing (c -ℤ r .next)) r c
+
+-- the windows that a sample closes: a refused one none
+unfoldable pub sampleWindows : Receiver → ComplexSample → ℤ → List Window
+sampleWindows r x c = unless (sampleRefusal (validCount (r .next)) x c) (acceptWindows (valid r) x c) []

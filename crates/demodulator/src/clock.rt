@@ -1,0 +1,88 @@
+// Slot timing: which slot is current, and when its window closes.
+use crate::Demodulator;
+use crate::sums::is_below;
+use crate::sums::minus;
+use crate::sums::plus;
+use crate::sums::slots_long;
+use dsp_types::SampleCount;
+use dsp_types::TdmaTime;
+ghost use mathlib.Core.Path.{_≡_};
+ghost use Prim.Native.Nat.{_+_, _-_, _*_, _^_, _<_};
+ghost use lib.IntN.{pos, _+ℤ_, _-ℤ_};
+ghost use Rattle.dsp_types.specs.Times.{slots};
+ghost use Rattle.demodulator.specs.Receiver.{slotReadyFromBegin, setSlot, addSlots, withClock, far, slotsToSkip, skipIf};
+ghost use Rattle.demodulator.specs.View.{modeOf, viewOf};
+ghost use Rattle.demodulator.specs.Bounds.{Within, Timed};
+
+// Samples from the beginning of a slot to where it is ready to be demodulated.
+fn slot_ready_from_begin(mode: u8) -> i64
+    ensures { λ r. ⌜ r ≡ slotReadyFromBegin (modeOf mode) ⌝ }
+{
+    if mode == 3 { 1020 } else { 1018 }
+}
+
+// When the slot with this number is ready.
+fn ready_time(mode: u8, reference: i64, slot: u32) -> i64
+    requires { ⌜ Within (2 ^ 40) reference × (slot < slots) ⌝ }
+    ensures { λ r. ⌜ r ≡ reference +ℤ pos (slot * 1020) +ℤ slotReadyFromBegin (modeOf mode) ⌝ }
+{
+    plus(
+        plus(reference, slots_long(slot)),
+        slot_ready_from_begin(mode),
+    )
+}
+
+// The counter less the filter's delay, less the ready time.
+pub(crate) fn tdiff(counter: i64, ready: i64) -> i64
+    requires { ⌜ Within (2 ^ 37) counter × Within (2 ^ 40) ready ⌝ }
+    ensures { λ r. ⌜ r ≡ counter -ℤ pos 16 -ℤ ready ⌝ }
+{
+    minus(minus(counter, 16), ready)
+}
+
+// Lost samples, or another reference time, can put the ready time into the past or far into the future.
+pub(crate) fn is_far(t: i64) -> bool
+    ensures { λ r. ⌜ r ≡ far t ⌝ }
+{
+    is_below(t, -2040) | is_below(0, t)
+}
+
+// How many slots the counter is past the ready time, rounded up.
+fn slots_to_skip(t: i64) -> i32
+    requires { ⌜ Within (2 ^ 41 - 2 ^ 34) t ⌝ }
+    ensures { λ r. ⌜ r ≡ slotsToSkip t ⌝ }
+{
+    minus(0, dsp_types::div_euclid(minus(0, t), 1020)) as i32
+}
+
+impl Demodulator {
+    pub(crate) fn set_slot(self, slot: TdmaTime) -> Demodulator
+        requires { ⌜ Within (2 ^ 40) (self .«reference_time» .0) × (slot .0 < slots) ⌝ }
+        ensures { λ r. ⌜ viewOf r ≡ withClock (viewOf self) (setSlot (modeOf (self .mode)) (self .«reference_time» .0) (slot .0)) ⌝ }
+    {
+        let ready = SampleCount(ready_time(self.mode, self.reference_time.0, slot.0));
+        let mut d = self;
+        d.current_slot = slot;
+        d.slot_ready_time = ready;
+        d
+    }
+
+    pub(crate) fn add_slots(self, slots: i32) -> Demodulator
+        requires { ⌜ Timed 4000 (viewOf self) ⌝ }
+        ensures { λ r. ⌜ viewOf r ≡ withClock (viewOf self) (addSlots (viewOf self .mode) (viewOf self .clock) slots) ⌝ }
+    {
+        let slot = self.current_slot.add_timeslots(slots);
+        self.set_slot(slot)
+    }
+
+    // Finds the next slot that is not past where the ready time is far off.
+    pub(crate) fn skip_slots(self, t: i64) -> Demodulator
+        requires { ⌜ Timed 4000 (viewOf self) × Within (2 ^ 41 - 2 ^ 34) t ⌝ }
+        ensures { λ r. ⌜ viewOf r ≡ skipIf (far t) t (viewOf self) ⌝ }
+    {
+        if is_far(t) {
+            return self.add_slots(slots_to_skip(t));
+        }
+        self
+    }
+}
