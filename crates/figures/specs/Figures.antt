@@ -1,9 +1,12 @@
 -- The figures that 01, "Checked figures", marks (P), as one table: what each row's definition gives, beside what 01 states. Definitions only.
 use Prim.Native.Nat.{ℕ}
 use mathlib.Core.List.{List, [], _∷_}
-use lib.IntN.{ℤ, pos}
+use lib.IntN.{ℤ, pos, negsuc}
 use lib.ListN.{getD, replicate}
 use lib.Seq.{slice}
+use lib.Ieee.{Float, binary32, ofBits, ofInt}
+use Rattle.magnitude.specs.Magnitude.{magnitudeOf}
+use Rattle.timing.specs.Turns.{quarterTurns}
 use Rattle.slotter.specs.Bursts.{Told, syncBurst, normalBurst}
 
 -- the bursts with zero blocks
@@ -19,10 +22,21 @@ pub data Window : Type 0 where
 -- a row: what is computed, and then what 01 states of it
 pub data Figure : Type 0 where
   window : Kind → Window → ℤ → List ℕ → Figure
+  -- the magnitude of (re, im), and the quarter turns of (i, q)
+  magnitude : Float → Float → Float → Figure
+  timing : Float → Float → Float → Figure
 
--- a row's value: a window's sum and its adjustment bits
+-- a row's value: a window's sum and its adjustment bits, or an f32
 pub data Value : Type 0 where
   adjusted : ℤ → List ℕ → Value
+  float : Float → Value
+
+-- a whole number as an f32, and 0.5
+unfoldable pub f32 : ℤ → Float
+f32 z = ofInt binary32 z
+
+abbrev pub half : Float
+half = ofBits binary32 0x3f00_0000
 
 -- what the builders' definitions give for zero blocks
 unfoldable pub burst : Kind → Told
@@ -33,9 +47,13 @@ burst normal2 = normalBurst 2 (replicate 216 0) (replicate 30 0) (replicate 216 
 unfoldable pub computed : Figure → Value
 computed (window kind first sum bits) = adjusted (getD (burst kind .sums) 0 (pos 0)) (slice 12 14 (burst kind .bits))
 computed (window kind last sum bits) = adjusted (getD (burst kind .sums) 1 (pos 0)) (slice 498 500 (burst kind .bits))
+computed (magnitude re im r) = float (magnitudeOf re im)
+computed (timing i q r) = float (quarterTurns i q)
 
 unfoldable pub stated : Figure → Value
 stated (window kind w sum bits) = adjusted sum bits
+stated (magnitude re im r) = float r
+stated (timing i q r) = float r
 
 unfoldable pub figures : List Figure
 figures =
@@ -44,4 +62,10 @@ figures =
     ∷ window normal1 first (pos 115) (1 ∷ 1 ∷ [])
     ∷ window normal1 last (pos 117) (0 ∷ 1 ∷ [])
     ∷ window normal2 last (pos 115) (1 ∷ 1 ∷ [])
+    ∷ magnitude (f32 (pos 3)) (f32 (pos 4)) (f32 (pos 5))
+    ∷ magnitude (f32 (pos 0)) (f32 (pos 0)) (f32 (pos 0))
+    ∷ timing (f32 (pos 1)) (f32 (pos 1)) half
+    ∷ timing (f32 (negsuc 0)) (f32 (pos 0)) (f32 (pos 2))
+    ∷ timing (f32 (pos 0)) (f32 (negsuc 0)) (f32 (pos 3))
+    ∷ timing (f32 (pos 0)) (f32 (pos 0)) (f32 (pos 0))
     ∷ []
