@@ -12,4 +12,4 @@ test:
 
 compare:
 	@rt check replay >/dev/null
-	@compare/run full
+	@compare/run full $$(cat tests/replay/kinds)

@@ -1,0 +1,8 @@
+mod Appending
+mod Decimal
+mod Sign
+mod Characters
+mod Blocks
+mod Judged
+mod Pieces
+mod Example

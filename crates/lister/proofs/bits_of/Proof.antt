@@ -1,0 +1,60 @@
+-- `lister::bits_of` meets its contract: each turn is `bit-more`.
+use mathlib.Core.Path.{_≡_, refl, ap, _∙_}
+use mathlib.Core.List.{_++_, map}
+use Prim.Native.Nat.{ℕ, _≤_, _<_, _-_}
+use native.Mathlib.Omega.{arith}
+use lib.ListN.{length, take, drop, replicate}
+use borrow.Author.Needs.{needs}
+use Rattle.lister.specs.Listing.{bitOf}
+use Rattle.lister.proofs.Characters.{bit-more, bit-none}
+use Rattle.lister.proofs.bits_of.Statement.{statement}
+use Rattle.lister.proofs.bits_of.Tie as tie
+
+abbrev Inv-loop : tie.InvT-loop
+Inv-loop characters bits₀ i₀ i-end bits i = (i ≤ length characters) × (i-end ≡ length characters) × (bits ≡ take i (map bitOf characters) ++ drop i (replicate 462 0))
+
+abbrev μ-loop : tie.MeasureT-loop
+μ-loop characters bits₀ i₀ i-end bits i = length characters - i
+
+loop-holds : tie.Need-loop-holds Inv-loop μ-loop
+loop-holds c = (search needs, search needs, refl)
+
+shared-slice-read-bit-of : tie.Need-shared-slice-read-bit-of Inv-loop μ-loop
+shared-slice-read-bit-of c = search needs
+
+bit-of-requires : tie.Need-bit-of-requires Inv-loop μ-loop
+bit-of-requires c κs = search needs
+
+array-write-bits : tie.Need-array-write-bits Inv-loop μ-loop
+array-write-bits c = search needs
+
+add-i : tie.Need-add-i Inv-loop μ-loop
+add-i c = search needs
+
+loop-less : tie.Need-loop-less Inv-loop μ-loop
+loop-less c = search needs
+
+loop-again : tie.Need-loop-again Inv-loop μ-loop
+loop-again c =
+    let l = c .before .before .before .loop in
+    let s = c .before .before .before .before .before .args .characters .now in
+    let h : l .i < 462 = omega arith in
+    (omega arith, refl, bit-more (replicate 462 0) s (l .i) (l .inv .2) (c .bit-of .ensures) h (omega arith))
+
+returns : tie.Need-returns Inv-loop μ-loop
+returns c = c .before .loop .inv .2 ∙ bit-none (replicate 462 0) (c .before .before .before .args .characters .now) (c .before .loop .i) (omega arith)
+
+pub bits-of-spec : {M : Type 1} → statement M
+bits-of-spec =
+    tie.close
+    (tie.spec
+    Inv-loop
+    μ-loop
+    loop-holds
+    shared-slice-read-bit-of
+    bit-of-requires
+    array-write-bits
+    add-i
+    loop-less
+    loop-again
+    returns)

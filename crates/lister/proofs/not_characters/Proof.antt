@@ -1,0 +1,54 @@
+-- `lister::not_characters` meets its contract. The loop's invariant: what was found, or is found from here on, is found in all.
+use mathlib.Core.Path.{_≡_, refl}
+use mathlib.Core.Bool.{_||_}
+use Prim.Native.Nat.{_≤_, _-_}
+use lib.ListN.{length, drop}
+use borrow.Author.Needs.{needs}
+use Rattle.lister.specs.Listing.{notCharacters}
+use Rattle.lister.proofs.Characters.{one-more, no-more}
+use Rattle.lister.proofs.not_characters.Statement.{statement}
+use Rattle.lister.proofs.not_characters.Tie as tie
+
+abbrev Inv-loop : tie.InvT-loop
+Inv-loop characters found₀ i₀ i-end found i = (i ≤ length characters) × (i-end ≡ length characters) × (notCharacters characters ≡ (found || notCharacters (drop i characters)))
+
+abbrev μ-loop : tie.MeasureT-loop
+μ-loop characters found₀ i₀ i-end found i = length characters - i
+
+loop-holds : tie.Need-loop-holds Inv-loop μ-loop
+loop-holds c = (search needs, search needs, refl)
+
+shared-slice-read-not-character : tie.Need-shared-slice-read-not-character Inv-loop μ-loop
+shared-slice-read-not-character c = search needs
+
+not-character-requires : tie.Need-not-character-requires Inv-loop μ-loop
+not-character-requires c κs = search needs
+
+add-i : tie.Need-add-i Inv-loop μ-loop
+add-i c = search needs
+
+loop-less : tie.Need-loop-less Inv-loop μ-loop
+loop-less c = search needs
+
+loop-again : tie.Need-loop-again Inv-loop μ-loop
+loop-again c =
+    let l = c .before .before .before .loop in
+    let s = c .before .before .before .before .before .args .characters .now in
+    (search needs, search needs, rw (c .not-character .ensures) (one-more s (l .found) (l .i) (search needs) (l .inv .2)))
+
+returns : tie.Need-returns Inv-loop μ-loop
+returns c = no-more (c .before .before .before .args .characters .now) (c .before .loop .found) (c .before .loop .i) (search needs) (c .before .loop .inv .2)
+
+pub not-characters-spec : {M : Type 1} → statement M
+not-characters-spec =
+    tie.close
+    (tie.spec
+    Inv-loop
+    μ-loop
+    loop-holds
+    shared-slice-read-not-character
+    not-character-requires
+    add-i
+    loop-less
+    loop-again
+    returns)

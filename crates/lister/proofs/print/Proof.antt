@@ -1,0 +1,42 @@
+-- `lister::print` meets its contract: each arm is a case of `told` and of `printed`.
+use mathlib.Core.Path.{_≡_, sym, _∙_}
+use borrow.Author.Needs.{needs}
+use mir.Syntax.{w32}
+use mir.ValLaws.{toZ-ofZ}
+use Rattle.slotter.specs.Bursts.{told}
+use Rattle.lister.specs.Listing.{printed}
+use Rattle.lister.proofs.print.Statement.{statement}
+use Rattle.lister.proofs.print.Tie as tie
+
+enum-known-answer : tie.Need-enum-known-answer
+enum-known-answer c = search needs
+
+built-requires : tie.Need-built-requires
+built-requires c κs = search needs
+
+enum-known-answer-2 : tie.Need-enum-known-answer-2
+enum-known-answer-2 c = search needs
+
+refused-requires : tie.Need-refused-requires
+refused-requires c κs = search needs
+
+returns : tie.Need-returns
+unfolding told printed
+returns c =
+    let g = c .before .before .answer .given .1 in
+    (c .built .ensures .0, c .built .ensures .1 ∙ rw (g, toZ-ofZ w32 (c .before .before .answer .given .0 .0) (search needs), toZ-ofZ w32 (c .before .before .answer .given .0 .1 .0) (search needs)))
+
+returns-2 : tie.Need-returns-2
+unfolding told printed
+returns-2 c = let g = c .before .before .answer2 .given .1 in (c .refused .ensures .0, c .refused .ensures .1 ∙ rw g)
+
+pub print-spec : {M : Type 1} → statement M
+print-spec =
+    tie.close
+    (tie.spec
+    enum-known-answer
+    built-requires
+    enum-known-answer-2
+    refused-requires
+    returns
+    returns-2)

@@ -1,0 +1,16 @@
+-- `lister::wrong_length` meets its contract: its test is the definition's.
+use borrow.Author.Needs.{needs}
+use Rattle.dsp_types.specs.Refusals.{wrongLength}
+use Rattle.lister.specs.Listing.{wrongCount}
+use Rattle.lister.proofs.wrong_length.Statement.{statement}
+use Rattle.lister.proofs.wrong_length.Tie as tie
+
+wanted-length-requires : tie.Need-wanted-length-requires
+wanted-length-requires c κs = search needs
+
+returns : tie.Need-returns
+unfolding wrongCount wrongLength
+returns c = rw (c .wanted-length .ensures)
+
+pub wrong-length-spec : {M : Type 1} → statement M
+wrong-length-spec = tie.close (tie.spec wanted-length-requires returns)

@@ -1,0 +1,335 @@
+// The listing of a burst's adjustment bits: from the bytes of an input to those of the output.
+use slotter::Answer;
+use slotter::Burst;
+ghost use mathlib.Core.Path.{_≡_};
+ghost use Prim.Native.Nat.{ℕ, _+_, _≤_};
+ghost use mathlib.Core.List.{List, [], _∷_, _++_, map};
+ghost use lib.IntN.{natAbs};
+ghost use lib.ListN.{length, take, drop, replicate};
+ghost use Rattle.io.specs.Counts.{Counts};
+ghost use Rattle.slotter.specs.Bursts.{told};
+ghost use Rattle.lister.specs.Listing.{decimal, signed, nameOf, characterOf, bitOf, typeOf, wanted, notCharacters, refusalOf, trimmed, notCharacter, wrongCount, burstOf, refusalLine, burstLines, printed, listing};
+ghost use Rattle.lister.specs.Texts.{textOf, inputOf};
+
+// A text of at most 128 bytes.
+pub struct Text {
+    pub bytes: [u8; 128],
+    pub len: usize,
+}
+
+fn append(t: Text, s: &[u8]) -> Text
+    requires { ⌜ t .len + length (now s) ≤ 128 ⌝ }
+    ensures { λ r. ⌜ (r .len ≡ t .len + length (now (s .entry))) × Counts (r .len) (r .bytes) × (textOf r ≡ textOf t ++ now (s .entry)) ⌝ }
+{
+    let mut bytes = t.bytes;
+    let len = t.len;
+    for i in 0..s.len() {
+        bytes[len + i] = s[i];
+    }
+    Text {
+        bytes: bytes,
+        len: len + s.len(),
+    }
+}
+
+fn append_decimal(t: Text, n: u64) -> Text
+    requires { ⌜ t .len + 20 ≤ 128 ⌝ }
+    ensures { λ r. ⌜ (r .len ≤ t .len + 20) × (textOf r ≡ textOf t ++ decimal 20 n) ⌝ }
+{
+    let mut digits = [0u8; 20];
+    let k = io::decimal(n, &mut digits);
+    append(t, &digits[..k])
+}
+
+// A number without its sign.
+fn size(n: i32) -> u64
+    ensures { λ r. ⌜ r ≡ natAbs n ⌝ }
+{
+    if n < 0 { (-1 - n) as u64 + 1 } else { n as u64 }
+}
+
+fn append_signed(t: Text, n: i32) -> Text
+    requires { ⌜ t .len + 21 ≤ 128 ⌝ }
+    ensures { λ r. ⌜ (r .len ≤ t .len + 21) × (textOf r ≡ textOf t ++ signed n) ⌝ }
+{
+    if n < 0 {
+        append_decimal(append(t, b"-"), size(n))
+    } else {
+        append_decimal(t, size(n))
+    }
+}
+
+fn append_name(t: Text, kind: u32) -> Text
+    requires { ⌜ t .len + 7 ≤ 128 ⌝ }
+    ensures { λ r. ⌜ (r .len ≤ t .len + 7) × (textOf r ≡ textOf t ++ nameOf kind) ⌝ }
+{
+    if kind == 4 {
+        append(t, b"sync")
+    } else if kind == 1 {
+        append(t, b"normal1")
+    } else {
+        append(t, b"normal2")
+    }
+}
+
+// The character of a bit.
+fn character_of(bit: u8) -> u8
+    ensures { λ r. ⌜ r ≡ characterOf bit ⌝ }
+{
+    if bit == 0 { b'0' } else { b'1' }
+}
+
+// The lines of one window: `lead`, its sum, `mid` and its adjustment bits.
+fn append_window(t: Text, lead: &[u8], sum: i32, mid: &[u8], first: u8, second: u8) -> Text
+    requires { ⌜ t .len + length (now lead) + length (now mid) + 23 ≤ 128 ⌝ }
+    ensures { λ r. ⌜ (r .len ≤ t .len + length (now (lead .entry)) + length (now (mid .entry)) + 23) × (textOf r ≡ textOf t ++ now (lead .entry) ++ signed sum ++ now (mid .entry) ++ (characterOf first ∷ characterOf second ∷ [])) ⌝ }
+{
+    let with_sum = append_signed(append(t, lead), sum);
+    let bits = [character_of(first), character_of(second)];
+    append(append(with_sum, mid), &bits)
+}
+
+// A text with nothing in it.
+fn empty() -> Text
+    ensures { λ r. ⌜ (r .len ≡ 0) × (textOf r ≡ []) ⌝ }
+{
+    Text {
+        bytes: [0; 128],
+        len: 0,
+    }
+}
+
+// What is printed of a refusal.
+fn refused(number: u32) -> Text
+    ensures { λ r. ⌜ Counts (r .len) (r .bytes) × (textOf r ≡ refusalLine number) ⌝ }
+{
+    append(
+        append_decimal(append(empty(), b"refused="), number as u64),
+        b"\n",
+    )
+}
+
+// What is printed of a burst.
+fn built(kind: u32, first: i32, last: i32, bits: [u8; 510]) -> Text
+    ensures { λ r. ⌜ Counts (r .len) (r .bytes) × (textOf r ≡ burstLines kind first last bits) ⌝ }
+{
+    let named = append_name(append(empty(), b"kind="), kind);
+    let one = append_window(
+        named,
+        b"\nsum_first=",
+        first,
+        b"\nadj_first=",
+        bits[12],
+        bits[13],
+    );
+    let both = append_window(
+        one,
+        b"\nsum_last=",
+        last,
+        b"\nadj_last=",
+        bits[498],
+        bits[499],
+    );
+    append(both, b"\n")
+}
+
+// What is printed of an answer to a letter of that type.
+fn print(kind: u32, burst: Burst) -> Text
+    ensures { λ r. ⌜ Counts (r .len) (r .bytes) × (textOf r ≡ printed kind (told burst)) ⌝ }
+{
+    let answer = burst.answer;
+    let bits = burst.bits;
+    match answer {
+        Answer::Built(first, last) => built(kind, first, last, bits),
+        Answer::Refused(number) => refused(number),
+    }
+}
+
+// The burst type that a letter asks for: S 4, N 1, P 2, another letter 0.
+fn type_of(letter: u8) -> u32
+    ensures { λ r. ⌜ r ≡ typeOf letter ⌝ }
+{
+    if letter == b'S' {
+        4
+    } else if letter == b'N' {
+        1
+    } else if letter == b'P' {
+        2
+    } else {
+        0
+    }
+}
+
+// How many characters the blocks of a type have.
+fn wanted_length(kind: u32) -> usize
+    ensures { λ r. ⌜ r ≡ wanted kind ⌝ }
+{
+    if kind == 4 { 366 } else { 462 }
+}
+
+// Whether some character is other than 0 and 1.
+fn not_characters(characters: &[u8]) -> bool
+    ensures { λ r. ⌜ r ≡ notCharacters (now (characters .entry)) ⌝ }
+{
+    let mut found = false;
+    for i in 0..characters.len() {
+        found = found | not_character(characters[i]);
+    }
+    found
+}
+
+fn not_character(c: u8) -> bool
+    ensures { λ r. ⌜ r ≡ notCharacter c ⌝ }
+{
+    !((c == b'0') | (c == b'1'))
+}
+
+// Whether the characters behind a letter of that type are too few or too many. For another letter no length is judged.
+fn wrong_length(kind: u32, characters: &[u8]) -> bool
+    ensures { λ r. ⌜ r ≡ wrongCount kind (now (characters .entry)) ⌝ }
+{
+    (kind != 0) & (characters.len() != wanted_length(kind))
+}
+
+// The refusal of the characters behind a letter of that type, or 0.
+fn refusal_of(kind: u32, characters: &[u8]) -> u32
+    ensures { λ r. ⌜ r ≡ refusalOf kind (now (characters .entry)) ⌝ }
+{
+    let wrong = wrong_length(kind, characters);
+    let bad = not_characters(characters);
+    if wrong {
+        return 3;
+    }
+    if bad {
+        return 4;
+    }
+    if kind == 0 { 5 } else { 0 }
+}
+
+fn bit_of(c: u8) -> u8
+    ensures { λ r. ⌜ r ≡ bitOf c ⌝ }
+{
+    if c == b'1' { 1 } else { 0 }
+}
+
+// The bits that at most 462 characters stand for, and zeros behind them.
+fn bits_of(characters: &[u8]) -> [u8; 462]
+    requires { ⌜ length (now characters) ≤ 462 ⌝ }
+    ensures { λ r. ⌜ r ≡ map bitOf (now (characters .entry)) ++ drop (length (now (characters .entry))) (replicate 462 0) ⌝ }
+{
+    let mut bits = [0; 462];
+    for i in 0..characters.len() {
+        bits[i] = bit_of(characters[i]);
+    }
+    bits
+}
+
+// The burst of a type, from the characters of its blocks.
+fn burst_of(kind: u32, characters: &[u8]) -> Burst
+    requires { ⌜ length (now characters) ≡ wanted kind ⌝ }
+    ensures { λ r. ⌜ told r ≡ burstOf kind (map bitOf (now (characters .entry))) ⌝ }
+{
+    let all = bits_of(characters);
+    let bits: &[u8] = &all;
+    if kind == 4 {
+        slotter::build_sdb(&bits[0..120], &bits[120..150], &bits[150..366])
+    } else {
+        slotter::build_ndb(kind, &bits[0..216], &bits[216..246], &bits[246..462])
+    }
+}
+
+// The length of an input without one closing newline.
+fn trimmed_length(input: &[u8]) -> usize
+    ensures { λ r. ⌜ (r ≤ length (now (input .entry))) × (take r (now (input .entry)) ≡ trimmed (now (input .entry))) ⌝ }
+{
+    let n = input.len();
+    if n == 0 {
+        return 0;
+    }
+    if input[n - 1] == b'\n' { n - 1 } else { n }
+}
+
+// The listing of an input of any length.
+pub fn listing(input: &[u8]) -> Text
+    ensures { λ r. ⌜ Counts (r .len) (r .bytes) × (textOf r ≡ listing (now (input .entry))) ⌝ }
+{
+    let n = trimmed_length(input);
+    if n == 0 {
+        return refused(3);
+    }
+    let kind = type_of(input[0]);
+    let characters = &input[1..n];
+    let number = refusal_of(kind, characters);
+    if number != 0 {
+        return refused(number);
+    }
+    print(kind, burst_of(kind, characters))
+}
+
+// What is kept of an input that comes in pieces: bytes with the same listing, whatever follows.
+pub struct Input {
+    pub bytes: [u8; 465],
+    pub len: usize,
+}
+
+impl Input {
+    pub fn new() -> Input
+        ensures { λ r. ⌜ inputOf r ≡ [] ⌝ }
+    {
+        Input {
+            bytes: [0; 465],
+            len: 0,
+        }
+    }
+
+    // One byte more. 465 bytes are too many for each of the three letters, so nothing behind them counts. Behind
+    // another letter what counts is the last byte and whether one before it was other than 0 and 1.
+    fn push(self, b: u8) -> Input
+        ensures { λ r. ⌜ ((t : List ℕ) → listing (inputOf r ++ t) ≡ listing (inputOf self ++ (b ∷ t))) ⌝ }
+    {
+        let mut bytes = self.bytes;
+        let len = self.len;
+        if len < 465 {
+            bytes[len] = b;
+            return Input {
+                bytes: bytes,
+                len: len + 1,
+            };
+        }
+        if type_of(bytes[0]) == 0 {
+            let last = bytes[464];
+            if not_character(last) {
+                bytes[1] = last;
+            }
+            bytes[464] = b;
+        }
+        Input {
+            bytes: bytes,
+            len: len,
+        }
+    }
+
+    // A piece more.
+    pub fn feed(self, piece: &[u8]) -> Input
+        ensures { λ r. ⌜ ((t : List ℕ) → listing (inputOf r ++ t) ≡ listing (inputOf self ++ (now (piece .entry) ++ t))) ⌝ }
+    {
+        let mut input = self;
+        for i in 0..piece.len() {
+            input = input.push(piece[i]);
+        }
+        input
+    }
+
+    // The listing of all the pieces.
+    pub fn listed(self) -> Text
+        ensures { λ r. ⌜ Counts (r .len) (r .bytes) × (textOf r ≡ listing (inputOf self)) ⌝ }
+    {
+        let bytes = self.bytes;
+        let len = self.len;
+        if len < 465 {
+            listing(&bytes[0..len])
+        } else {
+            listing(&bytes[0..465])
+        }
+    }
+}

@@ -1,0 +1,170 @@
+// The calls of a list, and how a line is read.
+use crate::field::Bits;
+use crate::field::Fields;
+use crate::field::Number;
+use crate::field::Sample;
+use crate::field::Span;
+use crate::field::is;
+use crate::field::letter;
+use crate::field::narrow;
+use crate::field::read_bits;
+use crate::field::read_number;
+use crate::field::read_sample;
+use crate::field::split;
+use crate::field::text;
+use crate::input::Block;
+use dsp_types::ComplexSample;
+
+const LARGEST_U32: u64 = 0xffff_ffff;
+
+const LONGEST_SLICE: u64 = 4096;
+
+pub enum Call {
+    // Kind, length of the answer bytes, bits.
+    Judge(u32, usize, Span),
+    // The burst's letter and its blocks, joined.
+    BuildJoined(u8, Span),
+    BuildSync(Span, Span, Span),
+    // The training sequence's number and the blocks.
+    BuildNormal(u32, Span, Span, Span),
+    NewLine,
+    Filter(ComplexSample),
+    Magnitude(ComplexSample),
+    // The sums i and q.
+    QuarterTurns(ComplexSample),
+    // The line is no call.
+    Error,
+    // No line is left.
+    End,
+}
+
+// The kind of burst that is wanted.
+enum Wanted {
+    Sync,
+    // A normal burst with the training sequence of this number.
+    Normal(u32),
+    Bad,
+}
+
+// The calls of one field; those of three, four and five follow.
+fn of_one(line: &[u8], fields: Fields) -> Call {
+    if is(text(line, fields, 0), b"lnew") {
+        Call::NewLine
+    } else {
+        Call::Error
+    }
+}
+
+fn build_joined(line: &mut [u8], fields: Fields) -> Call {
+    let kind = letter(text(&*line, fields, 1));
+    if !is_letter(kind) {
+        return Call::Error;
+    }
+    match read_bits(line, fields, 2) {
+        Bits::At(blocks) => Call::BuildJoined(kind, blocks),
+        Bits::Bad => Call::Error,
+    }
+}
+
+fn is_letter(byte: u8) -> bool {
+    match byte {
+        b'A'..=b'Z' | b'a'..=b'z' => true,
+        _ => false,
+    }
+}
+
+fn of_three(line: &mut [u8], fields: Fields) -> Call {
+    let name = letter(text(&*line, fields, 0));
+    if name == b'b' {
+        return build_joined(line, fields);
+    }
+    let Sample::Of(x) = read_sample(&*line, fields, 1) else {
+        return Call::Error;
+    };
+    match name {
+        b'l' => Call::Filter(x),
+        b'm' => Call::Magnitude(x),
+        b'a' => Call::QuarterTurns(x),
+        _ => Call::Error,
+    }
+}
+
+fn judge(line: &mut [u8], fields: Fields) -> Call {
+    let Number::Of(kind) = read_number(text(&*line, fields, 1), LARGEST_U32) else {
+        return Call::Error;
+    };
+    let Number::Of(answer) = read_number(text(&*line, fields, 2), LONGEST_SLICE) else {
+        return Call::Error;
+    };
+    match read_bits(line, fields, 3) {
+        Bits::At(window) => Call::Judge(narrow(kind), answer as usize, window),
+        Bits::Bad => Call::Error,
+    }
+}
+
+fn of_four(line: &mut [u8], fields: Fields) -> Call {
+    match letter(text(&*line, fields, 0)) {
+        b'j' => judge(line, fields),
+        _ => Call::Error,
+    }
+}
+
+fn wanted_of(text: &[u8]) -> Wanted {
+    if letter(text) == b'S' {
+        return Wanted::Sync;
+    }
+    match read_number(text, LARGEST_U32) {
+        Number::Of(train) => Wanted::Normal(narrow(train)),
+        Number::Bad => Wanted::Bad,
+    }
+}
+
+fn build(line: &mut [u8], fields: Fields) -> Call {
+    let wanted = wanted_of(text(&*line, fields, 1));
+    let Bits::At(blk1) = read_bits(&mut *line, fields, 2) else {
+        return Call::Error;
+    };
+    let Bits::At(bbk) = read_bits(&mut *line, fields, 3) else {
+        return Call::Error;
+    };
+    let Bits::At(blk2) = read_bits(&mut *line, fields, 4) else {
+        return Call::Error;
+    };
+    match wanted {
+        Wanted::Sync => Call::BuildSync(blk1, bbk, blk2),
+        Wanted::Normal(train) => Call::BuildNormal(train, blk1, bbk, blk2),
+        Wanted::Bad => Call::Error,
+    }
+}
+
+fn of_five(line: &mut [u8], fields: Fields) -> Call {
+    match letter(text(&*line, fields, 0)) {
+        b'd' => build(line, fields),
+        _ => Call::Error,
+    }
+}
+
+fn of_line(line: &mut [u8]) -> Call {
+    let fields = split(&*line);
+    let count = fields.count;
+    match count {
+        1 => of_one(&*line, fields),
+        3 => of_three(line, fields),
+        4 => of_four(line, fields),
+        5 => of_five(line, fields),
+        _ => Call::Error,
+    }
+}
+
+fn front(line: &mut [u8], len: usize) -> Call {
+    if len <= line.len() {
+        of_line(&mut line[0..len])
+    } else {
+        Call::Error
+    }
+}
+
+// Reads a line of that length. The bits that its call takes then lie in it as bytes.
+pub fn read(line: &mut Block, len: usize) -> Call {
+    front(line, len)
+}

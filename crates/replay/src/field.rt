@@ -1,0 +1,217 @@
+// The fields of a line: where they lie, and the numbers, samples and bits that they hold.
+use dsp_types::ComplexSample;
+
+// The fields of a line, which are parted by one space. A line of more than five is counted as one of six.
+pub struct Fields {
+    pub count: usize,
+    pub ends: [usize; 5],
+}
+
+// A part of the line.
+pub struct Span {
+    pub from: usize,
+    pub to: usize,
+}
+
+pub enum Number {
+    Of(u64),
+    Bad,
+}
+
+pub enum Sample {
+    Of(ComplexSample),
+    Bad,
+}
+
+pub enum Bits {
+    At(Span),
+    Bad,
+}
+
+// The part of a slice; empty where that does not lie within it.
+pub fn part(s: &[u8], from: usize, to: usize) -> &[u8] {
+    if to < from {
+        return &s[0..0];
+    }
+    if s.len() < to {
+        return &s[0..0];
+    }
+    &s[from..to]
+}
+
+// Notes where the next field ends, and gives the number of fields so far.
+fn add_end(ends: &mut [usize; 5], count: usize, at: usize) -> usize {
+    if count < 5 {
+        ends[count] = at;
+        count + 1
+    } else {
+        6
+    }
+}
+
+pub fn split(line: &[u8]) -> Fields {
+    let mut count: usize = 0;
+    let mut ends = [0usize; 5];
+    for i in 0..line.len() {
+        if line[i] == b' ' {
+            count = add_end(&mut ends, count, i);
+        }
+    }
+    count = add_end(&mut ends, count, line.len());
+    Fields { count, ends }
+}
+
+// Where field k lies, counted from 0.
+fn span_of(fields: Fields, k: usize) -> Span {
+    if 4 < k {
+        return Span { from: 0, to: 0 };
+    }
+    let to = fields.ends[k];
+    if k == 0 {
+        return Span { from: 0, to };
+    }
+    let from = std::num::wrapping_add_usize(fields.ends[k - 1], 1);
+    Span { from, to }
+}
+
+// The text of field k.
+pub fn text(line: &[u8], fields: Fields, k: usize) -> &[u8] {
+    let at = span_of(fields, k);
+    part(line, at.from, at.to)
+}
+
+pub fn is(text: &[u8], word: &[u8]) -> bool {
+    if text.len() != word.len() {
+        return false;
+    }
+    for i in 0..word.len() {
+        if text[i] != word[i] {
+            return false;
+        }
+    }
+    true
+}
+
+// The byte of a text that has no other, else 0.
+pub fn letter(text: &[u8]) -> u8 {
+    if text.len() == 1 { text[0] } else { 0 }
+}
+
+// The number with one digit more, where that is a digit and the number is not above `most`.
+fn with_digit(value: u64, byte: u8, most: u64) -> Number {
+    let digit = std::num::wrapping_sub_u8(byte, b'0') as u64;
+    if 9 < digit {
+        return Number::Bad;
+    }
+    if most < digit {
+        return Number::Bad;
+    }
+    if (most - digit) / 10 < value {
+        return Number::Bad;
+    }
+    Number::Of(10 * value + digit)
+}
+
+// A number from 0 to `most`, in decimal digits.
+pub fn read_number(text: &[u8], most: u64) -> Number {
+    if text.len() == 0 {
+        return Number::Bad;
+    }
+    let mut value: u64 = 0;
+    for i in 0..text.len() {
+        let Number::Of(next) = with_digit(value, text[i], most) else {
+            return Number::Bad;
+        };
+        value = next;
+    }
+    Number::Of(value)
+}
+
+// The value of a hexadecimal digit, or 16.
+fn hex_digit(byte: u8) -> u32 {
+    match byte {
+        b'0'..=b'9' => (byte - b'0') as u32,
+        b'a'..=b'f' => (byte - b'a') as u32 + 10,
+        b'A'..=b'F' => (byte - b'A') as u32 + 10,
+        _ => 16,
+    }
+}
+
+// An f32's bit pattern, 8 hexadecimal digits.
+fn pattern(text: &[u8]) -> Number {
+    if text.len() != 8 {
+        return Number::Bad;
+    }
+    let mut value: u64 = 0;
+    for i in 0..8 {
+        let digit = hex_digit(text[i]);
+        if 15 < digit {
+            return Number::Bad;
+        }
+        value = 16 * (value % 0x1000_0000) + digit as u64;
+    }
+    Number::Of(value)
+}
+
+// The float with that bit pattern; the patterns of NaN give one and the same NaN.
+fn float(pattern: u32) -> f32 {
+    if 0x7f80_0000 < pattern % 0x8000_0000 {
+        0.0 / 0.0
+    } else {
+        f32::from_bits(pattern)
+    }
+}
+
+// A number that is known to fit, else the largest that does.
+pub fn narrow(value: u64) -> u32 {
+    if value <= 0xffff_ffff {
+        value as u32
+    } else {
+        0xffff_ffff
+    }
+}
+
+// The sample in fields k and k + 1.
+pub fn read_sample(line: &[u8], fields: Fields, k: usize) -> Sample {
+    let Number::Of(re) = pattern(text(line, fields, k)) else {
+        return Sample::Bad;
+    };
+    let Number::Of(im) = pattern(text(line, fields, std::num::wrapping_add_usize(k, 1))) else {
+        return Sample::Bad;
+    };
+    Sample::Of(ComplexSample {
+        re: float(narrow(re)),
+        im: float(narrow(im)),
+    })
+}
+
+// Turns decimal digits into their values, and answers whether there was nothing else.
+fn decode(digits: &mut [u8]) -> bool {
+    let mut is_good = true;
+    for i in 0..digits.len() {
+        let value = std::num::wrapping_sub_u8(digits[i], b'0');
+        digits[i] = value;
+        is_good = is_good & (value < 10);
+    }
+    is_good
+}
+
+// The bits in field k, `=` and a digit each. The line has their values afterwards.
+pub fn read_bits(line: &mut [u8], fields: Fields, k: usize) -> Bits {
+    let field = span_of(fields, k);
+    let from = field.from;
+    let to = field.to;
+    if to <= from {
+        return Bits::Bad;
+    }
+    if line.len() < to {
+        return Bits::Bad;
+    }
+    if line[from] != b'=' {
+        return Bits::Bad;
+    }
+    if !decode(&mut line[from + 1..to]) {
+        return Bits::Bad;
+    }
+    Bits::At(Span { from: from + 1, to })
+}

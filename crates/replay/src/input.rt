@@ -1,0 +1,105 @@
+// Standard input, read in blocks and handed out line by line.
+use libc::STDERR_FILENO;
+use libc::STDIN_FILENO;
+
+pub type Block = [u8; 65536];
+
+// How many bytes the input's block holds, and how many of them are used up.
+pub struct Input {
+    pub len: usize,
+    pub used: usize,
+}
+
+// A line, which lies in a block of its own, and the input behind it.
+pub struct Line {
+    // A line that its block does not hold is read as an empty one: neither is a call.
+    pub len: usize,
+    pub is_end: bool,
+    pub input: Input,
+}
+
+// The part of a line that one block has. The line goes on in the next block unless it is whole.
+struct Part {
+    len: usize,
+    is_whole: bool,
+    input: Input,
+}
+
+impl Input {
+    pub fn new() -> Input {
+        Input { len: 0, used: 0 }
+    }
+}
+
+// Reads the next block. It has no bytes at the end of the input.
+fn read_block(block: &mut Block) -> Input {
+    let got = libc::read(STDIN_FILENO, block);
+    if got < 0 {
+        io::write_all(STDERR_FILENO, b"replay: the input cannot be read\n");
+    }
+    Input {
+        len: io::count(got, &*block),
+        used: 0,
+    }
+}
+
+fn byte_at(block: &Block, at: usize) -> u8 {
+    if at < 65536 { block[at] } else { 0 }
+}
+
+// Adds a byte to a line of that length. A length of 65,537 stands for every longer line.
+fn add(line: &mut Block, len: usize, byte: u8) -> usize {
+    if len < 65536 {
+        line[len] = byte;
+        len + 1
+    } else {
+        65537
+    }
+}
+
+// Moves the block's bytes to a line of that length, up to the end of the block or of the line.
+fn move_part(block: &Block, input: Input, line: &mut Block, len: usize) -> Part {
+    let end = input.len;
+    let mut at = input.used;
+    let mut n = len;
+    while at < end {
+        let byte = byte_at(block, at);
+        at += 1;
+        if byte == b'\n' {
+            return Part {
+                len: n,
+                is_whole: true,
+                input: Input { len: end, used: at },
+            };
+        }
+        n = add(line, n, byte);
+    }
+    Part {
+        len: n,
+        is_whole: false,
+        input: Input { len: end, used: at },
+    }
+}
+
+fn line_of(len: usize, is_end: bool, input: Input) -> Line {
+    Line {
+        len: if len <= 65536 { len } else { 0 },
+        is_end,
+        input,
+    }
+}
+
+// Moves the next line, without its newline, to the line's block.
+pub fn next_line(block: &mut Block, input: Input, line: &mut Block) -> Line {
+    let mut part = move_part(&*block, input, line, 0);
+    let mut turns = u64::MAX;
+    while turns > 0 && !part.is_whole {
+        turns -= 1;
+        let more = read_block(block);
+        if more.len == 0 {
+            return line_of(part.len, part.len == 0, more);
+        }
+        part = move_part(&*block, more, line, part.len);
+    }
+    line_of(part.len, false, part.input)
+}
