@@ -24,7 +24,7 @@ use Rattle.demodulator.specs.Receiver as R
 use Rattle.demodulator.specs.declared.Mode.{Mode}
 use Rattle.demodulator.specs.declared.Mode.the-variants.{DlUnsynchronized, Dl}
 use Rattle.demodulator.specs.Receiver.{Clock, Lock, HandedSlot, Receiver, slotTiming, far, slotsToSkip, listen, closeWindow, processSample, setSlot, withClock, addSlots}
-use Rattle.demodulator.specs.Calls.{BurstView, burstView, viewIn}
+use Rattle.demodulator.specs.Calls.{BurstView, burstView, padded, viewIn}
 use Rattle.demodulator.specs.Windows.{Kind, quiet, lock, slot, Window, kindOf, searchKind, windowOf, windowIf}
 use Rattle.account.specs.Rules.{typeOf, slotView, nextMisses, nextNumber, searchOn, locked, handed}
 use Rattle.account.specs.Tracked.{Tracked, windowBits, gapOf, slotGap, errorAfter, searchTurn, slotTurn, windowTurn, turnIf, turn}
@@ -90,11 +90,11 @@ pub record Waits (h : HandedSlot) (v : Waiting) : Type 0 where
 
 -- nothing found, in a slot's bytes and in half a slot's
 no-view : (bits : List ℕ) → burstView 510 (record { bits = bits; finding = notFound }) ≡ noView 510
-unfolding burstView viewIn noView notFound getBurst
+unfolding burstView viewIn padded noView notFound getBurst
 no-view bits = rw (le-leb 0 (length bits) (omega arith))
 
 pub no-half-view : (bits : List ℕ) → burstView 254 (record { bits = bits; finding = notFound }) ≡ noView 254
-unfolding burstView viewIn noView notFound getBurst
+unfolding burstView viewIn padded noView notFound getBurst
 no-half-view bits = rw (le-leb 0 (length bits) (omega arith))
 
 module _ (h : HandedSlot) (s : Signal) where

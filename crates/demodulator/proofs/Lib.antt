@@ -6,3 +6,4 @@ mod Views
 mod Times
 mod Steps
 mod Doors
+mod Taking

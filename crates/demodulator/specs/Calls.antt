@@ -14,6 +14,9 @@ use Rattle.burst_finder.specs.declared.Finding.{Finding}
 use Rattle.burst_finder.specs.Slots.{typeNumber, getBurst}
 use Rattle.demodulator.specs.declared.process.Answer.{Answer}
 use Rattle.demodulator.specs.declared.process.Answer.the-variants.{Accepted, Refused}
+use Rattle.demodulator.specs.declared.take.TakenView.{TakenView}
+use Rattle.demodulator.specs.declared.take.TakeAnswer.{TakeAnswer}
+use Rattle.demodulator.specs.declared.take.TakeAnswer.the-variants as TakeAnswer
 use Rattle.demodulator.specs.declared.Mode.{Mode}
 use Rattle.demodulator.specs.declared.Mode.the-variants.{Idle, DlUnsynchronized, Dl, Ul}
 use Rattle.demodulator.specs.Receiver.{Clock, Lock, Finder, HandedSlot, Receiver, processSample, arrived, closes, closeWindow}
@@ -91,14 +94,15 @@ unfoldable pub takeRefusal : {A : Type 0} → List A → List A → List A → B
 takeRefusal slot first second available =
     cond (wrongLength 510 slot || (wrongLength 254 first || wrongLength 254 second)) badLength (cond available accepted noSlot)
 
+-- n bytes: bits, and zeros behind them
+unfoldable pub padded : ℕ → List ℕ → List ℕ
+padded zero bits = []
+padded (suc n) [] = 0 ∷ padded n []
+padded (suc n) (b ∷ bits) = b ∷ padded n bits
+
 -- what fills n lent bytes: the view, and zeros behind it
 unfoldable pub viewIn : ℕ → Finder → List ℕ
 viewIn n f = padded n (getBurst (f .bits) (f .finding .«burst_pos») (f .finding .«burst_len»))
-  where
-    padded : ℕ → List ℕ → List ℕ
-    padded zero bits = []
-    padded (suc n) [] = 0 ∷ padded n []
-    padded (suc n) (b ∷ bits) = b ∷ padded n bits
 
 -- what a take tells of a burst view: its type, errors and bits, and the lent bytes as it fills them
 pub record BurstView : Type 0 where
@@ -116,6 +120,39 @@ burstView n f =
       bits = getBurst (f .bits) (f .finding .«burst_pos») (f .finding .«burst_len»);
       bytes = viewIn n f;
     }
+
+-- what an answer's numbers tell of a view: its type, errors and length
+pub record ViewNumbers : Type 0 where
+  pub type : ℕ
+  pub errors : ℕ
+  pub len : ℕ
+
+unfoldable pub numbersOf : BurstView → ViewNumbers
+numbersOf v = record { type = v .type; errors = v .errors; len = length (v .bits) }
+
+-- what a take answers: 0 with the slot's number and its views, of the whole slot and of its halves, or a refusal's number alone
+pub record TakeTold : Type 0 where
+  pub number : ℕ
+  pub time : List ℕ
+  pub views : List ViewNumbers
+
+unfoldable pub takeTold : ℕ → HandedSlot → TakeTold
+takeTold zero h =
+    record {
+      number = accepted;
+      time = h .time ∷ [];
+      views = numbersOf (burstView 510 (h .full)) ∷ numbersOf (burstView 254 (h .subslot1)) ∷ numbersOf (burstView 254 (h .subslot2)) ∷ [];
+    }
+takeTold (suc n) h = record { number = suc n; time = []; views = [] }
+
+unfoldable pub viewNumbers : TakenView → ViewNumbers
+viewNumbers v = record { type = v .«train_type»; errors = v .«train_errs»; len = v .«burst_len» }
+
+-- 01's number and values of each case of the answer
+unfoldable pub takeValues : TakeAnswer → TakeTold
+takeValues (TakeAnswer.Slot time full subslot1 subslot2) =
+    record { number = accepted; time = time .0 ∷ []; views = viewNumbers full ∷ viewNumbers subslot1 ∷ viewNumbers subslot2 ∷ [] }
+takeValues (TakeAnswer.Refused n) = record { number = n; time = []; views = [] }
 
 unfoldable pub taken : Receiver → Receiver
 taken r =

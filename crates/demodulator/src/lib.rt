@@ -1,8 +1,11 @@
 // The receiver (demodulator.rs): samples in, slots with their number and bursts out.
 mod clock;
+mod follow;
 mod listen;
+mod new;
 mod process;
 mod sums;
+mod take;
 mod window;
 
 use dsp_types::SampleCount;
@@ -10,6 +13,9 @@ use dsp_types::TdmaTime;
 use fir::FirComplexSym;
 pub use process::Answer;
 pub use process::Sampled;
+pub use take::TakeAnswer;
+pub use take::Taken;
+pub use take::TakenView;
 
 pub enum Mode {
     // Do nothing: an uplink receiver whose downlink receiver is unsynchronized.
