@@ -12,11 +12,10 @@ use mathlib.Core.Logic.{⊎-elim}
 use borrow.Author.Tests.{ne-eqb, eqb-true}
 use Rattle.dsp_types.specs.declared.ComplexSample.{ComplexSample}
 use Rattle.dsp_types.specs.Samples.{zeroF, silence}
-use Rattle.dsp_types.specs.Ring.{ring-zeros, sample-zeros, le-or-lt}
+use Rattle.dsp_types.specs.Ring.{ring-zeros, sample-zeros, le-or-lt, newest-same}
 use Rattle.dsp_types.specs.Refusals.{wrongLength}
 use Rattle.dsp_types.specs.declared.TdmaTime.{TdmaTime}
 use Rattle.history.specs.History.{heldIn, samplesIn}
-use Rattle.history.proofs.Laws.{newest-same}
 use Rattle.burst_finder.specs.Slots.{typeNumber, getBurst}
 use Rattle.demodulator.specs.declared.Mode.{Mode}
 use Rattle.demodulator.specs.declared.Mode.the-variants.{Idle, DlUnsynchronized, Dl, Ul}

@@ -8,7 +8,7 @@ use lib.Seq.{take-all}
 use lib.Ieee.{Float}
 use Rattle.dsp_types.specs.declared.ComplexSample.{ComplexSample}
 use Rattle.dsp_types.specs.Samples.{silence, ago}
-use Rattle.dsp_types.specs.Ring.{Agree, newest, newest-newer, newer-ago}
+use Rattle.dsp_types.specs.Ring.{Agree, newest, newest-newer, newer-ago, newest-same, newest-at}
 use Rattle.fir.specs.Fir.{termOf, laneUpTo, laneOf, firOf, filterOf, filteredOf, LineOf, lineAfter, outsOf, samplesOf, blockOf}
 
 -- ---- the filter reads the newest 32 and no other
@@ -39,21 +39,6 @@ filter-cong a =
       re = fir-cong (λ d k. ap (λ (s : ComplexSample). s .re) (a d k)) i;
       im = fir-cong (λ d k. ap (λ (s : ComplexSample). s .im) (a d k)) i;
     }
-
--- ---- records written out as lists
-
--- a record of one element is a list of it
-pub newest-same : {A : Type 0} (n : ℕ) (z : A) {f : ℕ → A} → Agree n f (λ j. z) → newest n f ≡ replicate n z
-unfolding newest
-newest-same zero z a = refl
-newest-same (suc n) z {f} a = λ i. a zero (omega arith) i ∷ newest-same n z {f = λ d. f (suc d)} (λ d k. a (suc d) (omega arith)) i
-
--- an element of the list is that of the record
-pub newest-at : {A : Type 0} (n : ℕ) (f : ℕ → A) (z : A) (d : ℕ) → d < n → getD (newest n f) d z ≡ f d
-unfolding newest
-newest-at zero f z d k = absurd (omega arith)
-newest-at (suc n) f z zero k = refl
-newest-at (suc n) f z (suc d) k = newest-at n (λ j. f (suc j)) z d (omega arith)
 
 -- ---- a line against the list of all inputs so far
 

@@ -10,9 +10,9 @@ use lib.Seq.{drop-cons, drop-drop, take-all, getD-at, getD-drop, getD-set-same, 
 use lib.Ieee.{Float, binary32, add, mul, nan}
 use Rattle.dsp_types.specs.declared.ComplexSample.{ComplexSample}
 use Rattle.dsp_types.specs.Samples.{zeroF, silence, ago, newer}
-use Rattle.dsp_types.specs.Ring.{le-or-lt, Agree, newest, newest-newer}
+use Rattle.dsp_types.specs.Ring.{le-or-lt, Agree, newest, newest-newer, newest-at}
 use Rattle.fir.specs.Fir.{taps, termOf, laneUpTo, laneOf, firOf, filterOf, inRow, rowOuts}
-use Rattle.fir.proofs.Laws.{filter-cong, newest-at}
+use Rattle.fir.proofs.Laws.{filter-cong}
 
 -- a part of a row up to its end
 pub rest : (row : List Float) (n : ℕ) → take (length row - n) (drop n row) ≡ drop n row

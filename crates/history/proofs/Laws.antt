@@ -12,23 +12,8 @@ use lib.Seq.{take-suc}
 use lib.Ieee.{Float, nan}
 use Rattle.dsp_types.specs.declared.ComplexSample.{ComplexSample}
 use Rattle.dsp_types.specs.Samples.{zeroF, silence, ago}
-use Rattle.dsp_types.specs.Ring.{slot, ringAt, ringSample, next, Agree, newest, newest-newer, newer-ago, ring-newer, sample-newer}
+use Rattle.dsp_types.specs.Ring.{slot, ringAt, ringSample, next, Agree, newest, newest-newer, newer-ago, ring-newer, sample-newer, newest-same, newest-at}
 use Rattle.history.specs.History.{heldIn, samplesIn, heldAfter, PastOf, AbsOf}
-
--- ---- records written out as lists
-
--- a record of one element is a list of it
-pub newest-same : {A : Type 0} (n : ℕ) (z : A) {f : ℕ → A} → Agree n f (λ j. z) → newest n f ≡ replicate n z
-unfolding newest
-newest-same zero z a = refl
-newest-same (suc n) z {f} a = λ i. a zero (omega arith) i ∷ newest-same n z {f = λ d. f (suc d)} (λ d k. a (suc d) (omega arith)) i
-
--- an element of the list is that of the record
-pub newest-at : {A : Type 0} (n : ℕ) (f : ℕ → A) (z : A) (d : ℕ) → d < n → getD (newest n f) d z ≡ f d
-unfolding newest
-newest-at zero f z d k = absurd (omega arith)
-newest-at (suc n) f z zero k = refl
-newest-at (suc n) f z (suc d) k = newest-at n (λ j. f (suc j)) z d (omega arith)
 
 -- ---- rings of any length, with an index that counts modulo it
 

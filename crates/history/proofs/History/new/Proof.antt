@@ -1,9 +1,8 @@
 -- `history::History::new` meets its contract: each ring holds zeros.
 use lib.Dec.{lit<}
 use Rattle.dsp_types.specs.Samples.{zeroF, silence}
-use Rattle.dsp_types.specs.Ring.{ring-zeros, sample-zeros}
+use Rattle.dsp_types.specs.Ring.{ring-zeros, sample-zeros, newest-same}
 use Rattle.history.specs.History.{heldIn, samplesIn}
-use Rattle.history.proofs.Laws.{newest-same}
 use Rattle.history.proofs.History.new.Statement.{statement}
 use Rattle.history.proofs.History.new.Tie as tie
 
