@@ -1,13 +1,13 @@
 -- The blocks of a burst, as parts of the bits that its characters stand for.
-use mathlib.Core.Path.{_≡_, refl, sym, ap, _∙_}
+use mathlib.Core.Path.{_≡_, _∙_}
 use mathlib.Core.Bool.{Bool, true, false, cond}
 use mathlib.Core.List.{List, _++_, map}
 use Prim.Native.Nat.{ℕ, _≤_}
 use native.Mathlib.Omega.{arith}
 use lib.Dec.{eqb}
-use lib.ListN.{length, take, drop, replicate, length-map}
+use lib.ListN.{length, take, drop, length-map}
 use borrow.Author.Tests.{eq-eqb, ne-eqb}
-use Rattle.slotter.specs.Bursts.{Told, syncBurst, normalBurst}
+use Rattle.slotter.specs.Bursts.{syncBurst, normalBurst}
 use Rattle.lister.specs.Listing.{wanted, bitOf, burstOf}
 use Rattle.lister.proofs.Characters.{part, rest}
 

@@ -1,11 +1,10 @@
 -- Decimal digits: the fewest that hold a number, last first, are the definition's.
-use mathlib.Core.Path.{_≡_, refl, sym, ap, _∙_}
-use mathlib.Core.Bool.{true, false, cond}
-use mathlib.Core.List.{List, [], _∷_, _++_}
-use Prim.Native.Nat.{ℕ, zero, suc, _+_, _-_, _*_, _/_, _%_, _^_, _≤_, _<_}
+use mathlib.Core.Path.{_≡_, ap}
+use mathlib.Core.List.{[], _∷_}
+use Prim.Native.Nat.{ℕ, zero, suc, _-_, _*_, _/_, _%_, _^_, _≤_, _<_}
 use native.Mathlib.Nat.{pow-suc, div-lt-iff-lt-mul, le-div-iff-mul-le, mod-eq-of-lt, pow-le-pow-right}
 use native.Mathlib.Omega.{arith}
-use lib.Dec.{ltb, lit<, lit≤}
+use lib.Dec.{lit<, lit≤}
 use borrow.Author.Tests.{lt-ltb, le-ltb}
 use mathlib.Core.Logic.{⊎-elim}
 use Rattle.dsp_types.specs.Ring.{le-or-lt}

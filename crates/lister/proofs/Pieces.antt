@@ -1,14 +1,14 @@
 -- Inputs with the same listing, whatever follows: too many characters are too many, and behind another letter only a wrong character counts.
 use mathlib.Core.Path.{_≡_, refl, sym, ap, _∙_, subst}
-use mathlib.Core.Bool.{Bool, true, false, not, cond, _&&_, _||_}
-use mathlib.Core.List.{List, [], _∷_, _++_, append-assoc}
-use Prim.Native.Nat.{ℕ, zero, suc, _+_, _≤_, _<_}
+use mathlib.Core.Bool.{Bool, true, false, cond, _||_}
+use mathlib.Core.List.{List, [], _∷_, _++_}
+use Prim.Native.Nat.{ℕ, suc, _+_, _≤_, _<_}
 use native.Mathlib.Numerals.{add-one}
 use native.Mathlib.Omega.{arith}
 use lib.Dec.{eqb}
 use lib.ListN.{length, take, drop, getD, set, length-append, length-drop, drop-of-length-le}
 use lib.Seq.{append-snoc, take-suc-set, set-at, split-at, length-take-le, take-all}
-use borrow.Author.Tests.{eq-eqb, ne-eqb}
+use borrow.Author.Tests.{ne-eqb}
 use Rattle.dsp_types.specs.Refusals.{wrongLength}
 use Rattle.slotter.specs.Bursts.{refusal}
 use Rattle.lister.specs.Listing.{trimmed, typeOf, wanted, notCharacter, notCharacters, wrongCount, refusalOf, answerOf, printed, listed, listing}

@@ -17,6 +17,7 @@ pub struct Text {
     pub len: usize,
 }
 
+// The text with the bytes s behind it.
 fn append(t: Text, s: &[u8]) -> Text
     requires { ⌜ t .len + length (now s) ≤ 128 ⌝ }
     ensures { λ r. ⌜ (r .len ≡ t .len + length (now (s .entry))) × Counts (r .len) (r .bytes) × (textOf r ≡ textOf t ++ now (s .entry)) ⌝ }
@@ -32,6 +33,7 @@ fn append(t: Text, s: &[u8]) -> Text
     }
 }
 
+// The text with a number in decimal behind it.
 fn append_decimal(t: Text, n: u64) -> Text
     requires { ⌜ t .len + 20 ≤ 128 ⌝ }
     ensures { λ r. ⌜ (r .len ≤ t .len + 20) × (textOf r ≡ textOf t ++ decimal 20 n) ⌝ }
@@ -48,6 +50,7 @@ fn size(n: i32) -> u64
     if n < 0 { (-1 - n) as u64 + 1 } else { n as u64 }
 }
 
+// The text with a whole number in decimal behind it.
 fn append_signed(t: Text, n: i32) -> Text
     requires { ⌜ t .len + 21 ≤ 128 ⌝ }
     ensures { λ r. ⌜ (r .len ≤ t .len + 21) × (textOf r ≡ textOf t ++ signed n) ⌝ }
@@ -59,6 +62,7 @@ fn append_signed(t: Text, n: i32) -> Text
     }
 }
 
+// The text with a type's name behind it.
 fn append_name(t: Text, kind: u32) -> Text
     requires { ⌜ t .len + 7 ≤ 128 ⌝ }
     ensures { λ r. ⌜ (r .len ≤ t .len + 7) × (textOf r ≡ textOf t ++ nameOf kind) ⌝ }
@@ -79,7 +83,7 @@ fn character_of(bit: u8) -> u8
     if bit == 0 { b'0' } else { b'1' }
 }
 
-// The lines of one window: `lead`, its sum, `mid` and its adjustment bits.
+// The text with `lead`, a window's sum, `mid` and its adjustment bits behind it.
 fn append_window(t: Text, lead: &[u8], sum: i32, mid: &[u8], first: u8, second: u8) -> Text
     requires { ⌜ t .len + length (now lead) + length (now mid) + 23 ≤ 128 ⌝ }
     ensures { λ r. ⌜ (r .len ≤ t .len + length (now (lead .entry)) + length (now (mid .entry)) + 23) × (textOf r ≡ textOf t ++ now (lead .entry) ++ signed sum ++ now (mid .entry) ++ (characterOf first ∷ characterOf second ∷ [])) ⌝ }
@@ -178,6 +182,7 @@ fn not_characters(characters: &[u8]) -> bool
     found
 }
 
+// Whether a character is other than 0 and 1.
 fn not_character(c: u8) -> bool
     ensures { λ r. ⌜ r ≡ notCharacter c ⌝ }
 {
@@ -191,7 +196,7 @@ fn wrong_length(kind: u32, characters: &[u8]) -> bool
     (kind != 0) & (characters.len() != wanted_length(kind))
 }
 
-// The refusal of the characters behind a letter of that type, or 0.
+// The refusal of the characters behind a letter of that type: 3, 4, 5 for another letter, else 0.
 fn refusal_of(kind: u32, characters: &[u8]) -> u32
     ensures { λ r. ⌜ r ≡ refusalOf kind (now (characters .entry)) ⌝ }
 {
@@ -206,6 +211,7 @@ fn refusal_of(kind: u32, characters: &[u8]) -> u32
     if kind == 0 { 5 } else { 0 }
 }
 
+// The bit that a character stands for.
 fn bit_of(c: u8) -> u8
     ensures { λ r. ⌜ r ≡ bitOf c ⌝ }
 {

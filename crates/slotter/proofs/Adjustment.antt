@@ -1,6 +1,6 @@
 -- Phase sums over any number of symbols, and the adjustment symbol: an odd number of symbols has an odd sum, and of the four symbols exactly one closes it.
 -- It holds since `modulo8` takes sums to sums, and modulo 8 there are eight cases.
-use mathlib.Core.Path.{_≡_, refl, ap, _∙_, sym, subst}
+use mathlib.Core.Path.{_≡_, refl, ap, _∙_, subst}
 use mathlib.Core.Bool.{Bool, true, false, cond}
 use mathlib.Core.List.{List, [], _∷_}
 use Prim.Native.Nat.{ℕ, zero, suc, _+_, _-_, _*_, _/_, _%_, _<_}

@@ -1,12 +1,10 @@
 -- A builder's answer from its parts.
 use mathlib.Core.Path.{_≡_, refl, sym, ap, _∙_}
-use mathlib.Core.List.{List, [], _∷_, _++_}
-use Prim.Native.Nat.{ℕ, zero, suc, _≤_}
-use native.Mathlib.Omega.{arith}
+use mathlib.Core.List.{List, _++_}
+use Prim.Native.Nat.{ℕ, zero, suc}
 use lib.IntN.{ℤ}
-use lib.ListN.{length, take, drop}
-use Rattle.slotter.specs.declared.Burst.{Burst}
-use Rattle.slotter.specs.declared.Answer.the-variants.{Built, Refused}
+use lib.ListN.{take, drop}
+use Rattle.slotter.specs.declared.Answer.the-variants.{Built}
 use Rattle.train_consts.specs.Training.{normal3}
 use Rattle.slotter.specs.Phases.{phaseSum, adjustment}
 use Rattle.slotter.specs.Bursts.{firstWindow, lastWindow, downlink, Told, told, refusal, answered}

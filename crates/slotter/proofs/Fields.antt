@@ -1,13 +1,13 @@
 -- A list that is filled field by field, in order: what the code's copies leave, for fields of any length.
 use mathlib.Core.Path.{_≡_, refl, sym, ap, _∙_}
-use mathlib.Core.List.{List, [], _++_, append-assoc, append-nil}
-use Prim.Native.Nat.{ℕ, zero, _+_, _-_, _≤_}
+use mathlib.Core.List.{List, _++_, append-assoc, append-nil}
+use Prim.Native.Nat.{ℕ, _+_, _≤_}
 use native.Mathlib.Nat.{le-refl}
 use native.Mathlib.Omega.{arith}
 use mathlib.Core.Bool.{Bool, true, false, cond}
 use lib.Dec.{eqb}
 use lib.ListN.{length, take, drop, length-append, length-drop, take-append-drop, drop-of-length-le}
-use lib.Seq.{paste, take-at, drop-at, take-length, take-append-le, drop-drop, drop-append-add, length-take-le, length-paste, take-all}
+use lib.Seq.{paste, take-at, drop-at, take-length, drop-drop, drop-append-add, length-take-le, length-paste, take-all}
 use Rattle.train_consts.specs.Training.{normal1, normal2}
 use Rattle.slotter.specs.Bursts.{trainingOf, normalFields}
 

@@ -1,6 +1,6 @@
 -- The folding of an odd phase: what `calc_phase_adj` makes of `phase % 8` is the phase of the adjustment symbol, and `phase_adj_bits` names that symbol.
 -- Modulo 8 there are four cases of either sign, and there are four symbols.
-use mathlib.Core.Path.{_≡_, refl, ap, _∙_, sym}
+use mathlib.Core.Path.{_≡_, refl, ap}
 use mathlib.Core.Bool.{Bool, true, false, cond}
 use Prim.Native.Nat.{ℕ, zero, suc, _-_, _/_, _%_, _≤_, _<_}
 use native.Mathlib.Omega.{arith}

@@ -8,7 +8,6 @@ use lib.IntN.{ℤ, pos, negsuc, _+ℤ_, +ℤ-assoc, +ℤ-idr}
 use lib.ListN.{length, drop, getD, length-drop}
 use lib.Dec.{lit≤}
 use lib.Seq.{drop-cons}
-use lib.Signed.{mag}
 use mir.Syntax.{w32}
 use mir.Val.{SFits}
 use Rattle.dsp_types.specs.Ints.{up, dn, sum}

@@ -1,5 +1,5 @@
 -- The two windows of a burst: where they stand in its bits, and that each has an odd number of symbols and so an odd sum.
-use mathlib.Core.Path.{_≡_, refl, sym, ap, _∙_}
+use mathlib.Core.Path.{_≡_, sym, ap, _∙_}
 use mathlib.Core.List.{List, [], _∷_}
 use Prim.Native.Nat.{ℕ, zero, suc, _+_, _-_, _*_, _%_, _≤_}
 use native.Mathlib.Nat.{sub-zero}

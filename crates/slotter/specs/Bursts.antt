@@ -1,6 +1,6 @@
 -- The downlink bursts and what their builders answer (01, "Refusals" and "Burst bits"; EN 300 392-2, clauses 9.4.4.2.5 and 9.4.4.2.6). Definitions only.
 use Prim.Native.Nat.{ℕ, zero, suc, _-_, _*_}
-use mathlib.Core.Bool.{Bool, cond, _||_}
+use mathlib.Core.Bool.{cond, _||_}
 use mathlib.Core.List.{List, [], _∷_, _++_}
 use lib.IntN.{ℤ}
 use lib.Dec.{eqb}

@@ -27,7 +27,7 @@ modulo8 (negsuc n) = 7 - n % 8
 unfoldable pub closes : ℤ → ℕ → ℕ → Bool
 closes sum a b = eqb (modulo8 (phaseOf a b +ℤ sum)) 0
 
--- the adjustment bits of a window with that sum: those of the four symbols whose phase closes it
+-- the adjustment bits of a window with that sum: of the four symbols, the one whose phase closes it (no window's sum is even)
 unfoldable pub adjustment : ℤ → List ℕ
 adjustment sum =
     cond (closes sum 0 0) (0 ∷ 0 ∷ [])

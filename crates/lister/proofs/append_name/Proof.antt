@@ -1,5 +1,4 @@
 -- `lister::append_name` meets its contract: its tests are the definition's.
-use mathlib.Core.Path.{_≡_}
 use native.Mathlib.Omega.{arith}
 use borrow.Author.Needs.{needs}
 use borrow.Author.Tests.{eq-eqb, ne-eqb}

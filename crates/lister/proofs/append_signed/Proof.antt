@@ -1,15 +1,13 @@
 -- `lister::append_signed` meets its contract: by the sign.
-use mathlib.Core.Path.{_≡_, ap, _∙_}
+use mathlib.Core.Path.{_≡_, _∙_}
 use mathlib.Core.Bool.{true, false}
-use mathlib.Core.List.{List, _++_}
-use Prim.Native.Nat.{ℕ}
 use native.Mathlib.Omega.{arith}
-use lib.IntN.{pos, natAbs}
+use lib.IntN.{pos}
 use lib.Signed.{ltZ}
 use borrow.Author.Needs.{needs}
 use mir.Syntax.{w32}
 use mir.ValLaws.{toZ-ofZ}
-use Rattle.lister.specs.Listing.{ascii, decimal, signed}
+use Rattle.lister.specs.Listing.{ascii}
 use Rattle.lister.specs.Texts.{textOf}
 use Rattle.lister.proofs.Sign.{below-signed, above-signed}
 use Rattle.lister.proofs.append_signed.Statement.{statement}

@@ -1,5 +1,5 @@
 -- `lister::append_window` meets its contract: it appends the four parts in order.
-use mathlib.Core.Path.{_≡_, _∙_}
+use mathlib.Core.Path.{_∙_}
 use native.Mathlib.Omega.{arith}
 use borrow.Author.Needs.{needs}
 use mir.Syntax.{w32}

@@ -1,11 +1,7 @@
 -- `lister::burst_of` meets its contract: the parts of the bits are the blocks.
-use mathlib.Core.Path.{_≡_, _∙_}
-use mathlib.Core.List.{map}
-use Prim.Native.Nat.{_≤_}
-use native.Mathlib.Omega.{arith}
+use mathlib.Core.Path.{_∙_}
 use lib.ListN.{length, drop, replicate}
 use borrow.Author.Needs.{needs}
-use Rattle.lister.specs.Listing.{wanted, bitOf}
 use Rattle.lister.proofs.Blocks.{wanted-most, sync-blocks, normal-blocks}
 use Rattle.lister.proofs.burst_of.Statement.{statement}
 use Rattle.lister.proofs.burst_of.Tie as tie

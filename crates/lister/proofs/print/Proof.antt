@@ -1,5 +1,5 @@
 -- `lister::print` meets its contract: each arm is a case of `told` and of `printed`.
-use mathlib.Core.Path.{_≡_, sym, _∙_}
+use mathlib.Core.Path.{_∙_}
 use borrow.Author.Needs.{needs}
 use mir.Syntax.{w32}
 use mir.ValLaws.{toZ-ofZ}

@@ -1,5 +1,5 @@
 -- `lister::refusal_of` meets its contract: its tests are the definition's, in the same order.
-use mathlib.Core.Path.{_≡_, sym, _∙_}
+use mathlib.Core.Path.{sym, _∙_}
 use borrow.Author.Needs.{needs}
 use borrow.Author.Tests.{eq-eqb, ne-eqb}
 use Rattle.lister.specs.Listing.{refusalOf}

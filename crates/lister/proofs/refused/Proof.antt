@@ -1,6 +1,5 @@
 -- `lister::refused` meets its contract: it appends the three parts in order.
-use mathlib.Core.Path.{_≡_, _∙_}
-use native.Mathlib.Omega.{arith}
+use mathlib.Core.Path.{_∙_}
 use borrow.Author.Needs.{needs}
 use Rattle.lister.specs.Listing.{ascii, refusalLine}
 use Rattle.lister.proofs.refused.Statement.{statement}

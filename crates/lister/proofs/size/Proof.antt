@@ -1,6 +1,6 @@
 -- `lister::size` meets its contract: by the sign.
 use mathlib.Core.Path.{_≡_}
-use mathlib.Core.Bool.{true, false}
+use mathlib.Core.Bool.{true}
 use Prim.Native.Nat.{_<_, _^_}
 use native.Mathlib.Omega.{arith}
 use lib.IntN.{pos}

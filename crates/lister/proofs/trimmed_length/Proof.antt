@@ -1,9 +1,6 @@
 -- `lister::trimmed_length` meets its contract: by the last byte.
-use mathlib.Core.Path.{_≡_, refl, sym, _∙_}
 use native.Mathlib.Omega.{arith}
-use lib.ListN.{length, take, getD}
 use borrow.Author.Needs.{needs}
-use borrow.Author.Tests.{eq-eqb, ne-eqb}
 use Rattle.lister.proofs.Characters.{trim-none, trim-newline, trim-other}
 use Rattle.lister.proofs.trimmed_length.Statement.{statement}
 use Rattle.lister.proofs.trimmed_length.Tie as tie

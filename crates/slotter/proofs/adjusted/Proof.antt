@@ -1,16 +1,15 @@
 -- `slotter::adjusted` meets its contract: the parts that it sums are the windows, and these have odd sums.
-use mathlib.Core.Path.{_≡_, sym, ap, _∙_}
+use mathlib.Core.Path.{_≡_, ap, _∙_}
 use mathlib.Core.List.{List}
-use Prim.Native.Nat.{ℕ, _%_}
+use Prim.Native.Nat.{ℕ}
 use native.Mathlib.Omega.{arith}
-use lib.IntN.{ℤ}
 use lib.ListN.{length, take, drop, length-drop}
 use lib.Seq.{length-take-le}
 use borrow.Author.Needs.{needs}
 use mir.Syntax.{w32}
 use mir.Val.{toZ, ofZ}
 use mir.ValLaws.{toZ-ofZ}
-use Rattle.slotter.specs.Phases.{phaseSum, adjustment, modulo8}
+use Rattle.slotter.specs.Phases.{phaseSum}
 use Rattle.slotter.specs.Bursts.{firstWindow, lastWindow}
 use Rattle.slotter.proofs.Windows.{first-part, last-part, first-odd, last-odd}
 use Rattle.slotter.proofs.Answers.{built}

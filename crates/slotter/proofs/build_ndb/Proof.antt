@@ -1,13 +1,10 @@
 -- `slotter::build_ndb` meets its contract: the refusal is the definition's, and without one the blocks have their lengths.
 use mathlib.Core.Path.{_≡_, refl, sym, ap, _∙_}
-use mathlib.Core.List.{_++_}
-use Prim.Native.Nat.{_≤_}
 use native.Mathlib.Omega.{arith}
 use lib.Dec.{lit≤}
-use lib.ListN.{length, take, drop, length-drop}
-use lib.Seq.{take-all, length-take-le}
+use lib.ListN.{length}
 use borrow.Author.Needs.{needs}
-use Rattle.slotter.specs.Bursts.{blockRefusal, trainingRefusal, answered, trainingOf, normalFields, normalBurst, normalCut}
+use Rattle.slotter.specs.Bursts.{blockRefusal, trainingRefusal, answered, normalBurst, normalCut}
 use Rattle.slotter.proofs.Answers.{refuses, accepts}
 use Rattle.slotter.proofs.Fields.{training-length, cut-length, cut}
 use Rattle.slotter.proofs.Refusal.{right-lengths}

@@ -1,13 +1,11 @@
 -- `slotter::framed` meets its contract: its four copies are the law `frame`.
-use mathlib.Core.Path.{_≡_, refl, _∙_}
-use mathlib.Core.List.{List}
-use Prim.Native.Nat.{ℕ, _+_, _≤_}
+use mathlib.Core.Path.{_≡_, refl}
 use native.Mathlib.Omega.{arith}
 use lib.Dec.{lit≤}
 use lib.ListN.{length, take, drop}
 use borrow.Author.Needs.{needs}
 use Rattle.train_consts.specs.Training.{normal3}
-use Rattle.slotter.proofs.Fields.{put-length, frame}
+use Rattle.slotter.proofs.Fields.{frame}
 use Rattle.slotter.proofs.framed.Statement.{statement}
 use Rattle.slotter.proofs.framed.Tie as tie
 

@@ -1,6 +1,6 @@
 -- `slotter::put` meets its contract: each turn is `paste-suc`.
 use mathlib.Core.Path.{_≡_, ap, _∙_}
-use Prim.Native.Nat.{_+_, _-_, _≤_}
+use Prim.Native.Nat.{_-_, _≤_}
 use native.Mathlib.Numerals.{add-one}
 use native.Mathlib.Omega.{arith}
 use borrow.Author.Needs.{needs}
@@ -9,8 +9,6 @@ use lib.Seq.{paste, paste-zero, paste-suc}
 use Rattle.slotter.proofs.Fields.{put-length}
 use Rattle.slotter.proofs.put.Statement.{statement}
 use Rattle.slotter.proofs.put.Tie as tie
-use Rattle.slotter.proofs.put.Reads as reads
-use Rattle.slotter.proofs.put.Lts as lts
 
 abbrev Inv-loop : tie.InvT-loop
 Inv-loop bits₀ at field i₀ i-end bits i = (i ≤ length field) × (i-end ≡ length field) × (bits ≡ paste bits₀ at field i)
@@ -18,31 +16,24 @@ Inv-loop bits₀ at field i₀ i-end bits i = (i ≤ length field) × (i-end ≡
 abbrev μ-loop : tie.MeasureT-loop
 μ-loop bits₀ at field i₀ i-end bits i = length field - i
 
--- src/lib.rt:53:5
 loop-holds : tie.Need-loop-holds Inv-loop μ-loop
 loop-holds c = (search needs, search needs, paste-zero (c .args .bits .now) (c .args .at) (c .args .field .now))
 
--- src/lib.rt:54:24
 shared-slice-read-bits : tie.Need-shared-slice-read-bits Inv-loop μ-loop
 shared-slice-read-bits c = search needs
 
--- src/lib.rt:54:14
 add-bits : tie.Need-add-bits Inv-loop μ-loop
 add-bits c = search needs
 
--- src/lib.rt:54:9
 element-write-bits : tie.Need-element-write-bits Inv-loop μ-loop
 element-write-bits c = search needs
 
--- src/lib.rt:53:9
 add-i : tie.Need-add-i Inv-loop μ-loop
 add-i c = search needs
 
--- src/lib.rt:53:5
 loop-less : tie.Need-loop-less Inv-loop μ-loop
 loop-less c = search needs
 
--- src/lib.rt:53:5
 loop-again : tie.Need-loop-again Inv-loop μ-loop
 loop-again c =
     let a = c .before .before .before .args in

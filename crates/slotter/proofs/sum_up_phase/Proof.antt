@@ -1,9 +1,10 @@
+-- `slotter::sum_up_phase` meets its contract. The loop's invariant: the sum so far and that of the bits left are the whole, and a symbol moves it by 3 at most.
 use mathlib.Core.Path.{_≡_, sym, _∙_}
 use mathlib.Core.List.{List}
 use Prim.Native.Nat.{ℕ, _+_, _-_, _*_, _≤_}
 use native.Mathlib.Omega.{arith}
 use borrow.Author.Needs.{needs}
-use lib.IntN.{ℤ, pos, _+ℤ_, +ℤ-idl}
+use lib.IntN.{ℤ, _+ℤ_, +ℤ-idl}
 use lib.ListN.{length, drop, getD}
 use mir.Syntax.{w32}
 use mir.Val.{toZ, ofZ, SFits}
@@ -12,9 +13,6 @@ use Rattle.slotter.specs.Phases.{phaseOf, phaseSum}
 use Rattle.slotter.proofs.Phase.{one-more, no-more, Small, small-more, small-fits}
 use Rattle.slotter.proofs.sum_up_phase.Statement.{statement}
 use Rattle.slotter.proofs.sum_up_phase.Tie as tie
-use Rattle.slotter.proofs.sum_up_phase.Reads as reads
-use Rattle.slotter.proofs.sum_up_phase.Lts as lts
-use Rattle.slotter.proofs.phase_of.Reads as phase-of-reads
 
 abbrev Inv-loop : tie.InvT-loop
 Inv-loop bits sum₀ at₀ sum at = (at ≤ length bits) × Small (toZ w32 sum) (2 * at) × (phaseSum bits ≡ toZ w32 sum +ℤ phaseSum (drop at bits))
@@ -47,45 +45,35 @@ fits-next c = small-fits (small-next c) (omega arith)
 loop-holds : tie.Need-loop-holds Inv-loop μ-loop
 loop-holds c = (search needs, search needs, sym (+ℤ-idl (phaseSum (c .before .args .bits .now))))
 
--- src/lib.rt:74:11
 add-loop : tie.Need-add-loop Inv-loop μ-loop
 add-loop c = search needs
 
--- src/lib.rt:75:25
 shared-slice-read-phase-of : tie.Need-shared-slice-read-phase-of Inv-loop μ-loop
 shared-slice-read-phase-of c = search needs
 
--- src/lib.rt:75:40
 add-phase-of : tie.Need-add-phase-of Inv-loop μ-loop
 add-phase-of c = search needs
 
--- src/lib.rt:75:35
 shared-slice-read-phase-of-2 : tie.Need-shared-slice-read-phase-of-2 Inv-loop μ-loop
 shared-slice-read-phase-of-2 c = search needs
 
--- src/lib.rt:75:16
 phase-of-requires : tie.Need-phase-of-requires Inv-loop μ-loop
 phase-of-requires c κs = search needs
 
--- src/lib.rt:75:9
 add-sum : tie.Need-add-sum Inv-loop μ-loop
 add-sum c = rw (phase-is c) (fits-next c)
 
--- src/lib.rt:76:9
 add-at : tie.Need-add-at Inv-loop μ-loop
 add-at c = search needs
 
--- src/lib.rt:74:5
 loop-less : tie.Need-loop-less Inv-loop μ-loop
 loop-less c = search needs
 
--- src/lib.rt:74:5
 loop-again : tie.Need-loop-again Inv-loop μ-loop
 loop-again c =
     rw (phase-is c, toZ-ofZ w32 _ (fits-next c))
     (omega arith, small-next c, one-more (Bits c) (Sum c) (At c) (omega arith) (c .before .before .before .before .loop .inv .2))
 
--- src/lib.rt:68:1
 returns : tie.Need-returns Inv-loop μ-loop
 returns c = no-more _ _ _ (c .loop-test .left) (c .before .loop .inv .2)
 

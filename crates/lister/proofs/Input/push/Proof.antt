@@ -1,13 +1,9 @@
 -- `lister::Input::push` meets its contract: there is room, or the characters are too many, or a letter is another and its last character is kept.
-use mathlib.Core.Path.{_≡_, sym, ap, _∙_}
-use mathlib.Core.Bool.{true, false}
+use mathlib.Core.Path.{_≡_, sym, _∙_}
 use mathlib.Core.Logic.{⊎-elim}
-use mathlib.Core.List.{List, _∷_, _++_}
-use Prim.Native.Nat.{ℕ}
 use native.Mathlib.Omega.{arith}
-use lib.ListN.{length, take, getD, set, length-set}
+use lib.ListN.{length, getD, set, length-set}
 use borrow.Author.Needs.{needs}
-use Rattle.lister.specs.Listing.{listing}
 use Rattle.lister.specs.Texts.{inputOf}
 use Rattle.lister.proofs.Pieces.{one-more, full, last-fine, last-wrong, whole}
 use Rattle.lister.proofs.Input.push.Statement.{statement}
