@@ -6,3 +6,4 @@ pub mod Bounds
 pub mod Agreement
 pub mod Counts
 pub mod Demand
+pub mod Running

@@ -1,4 +1,5 @@
 pub mod CallList
+pub mod Runs
 pub mod Reachable
 pub mod Rules
 pub mod Tracked

@@ -6,7 +6,7 @@ ghost use mathlib.Core.Path.{_≡_};
 ghost use Rattle.demodulator.specs.Calls.{answerNumber, followRefusal, slotWhen, followed, followOf};
 ghost use Rattle.demodulator.specs.View.{modeOf, viewOf};
 
-pub(crate) struct Followed {
+pub struct Followed {
     pub answer: Answer,
     pub receiver: Demodulator,
 }
@@ -52,7 +52,7 @@ impl Demodulator {
     }
 
     // Takes the slot timing of another receiver. A receiver that finds its own is refused.
-    pub(crate) fn sync_to_demodulator(self, demod: Demodulator) -> Followed
+    pub fn sync_to_demodulator(self, demod: Demodulator) -> Followed
         ensures answer { λ r. ⌜ answerNumber (r .answer) ≡ followRefusal (viewOf self .mode) ⌝ }
         ensures receiver { λ r. ⌜ viewOf (r .receiver) ≡ followOf (viewOf self) (viewOf demod) ⌝ }
     {

@@ -11,6 +11,7 @@ mod window;
 use dsp_types::SampleCount;
 use dsp_types::TdmaTime;
 use fir::FirComplexSym;
+pub use follow::Followed;
 pub use process::Answer;
 pub use process::Sampled;
 pub use take::TakeAnswer;

@@ -1,0 +1,4 @@
+pub mod Blocks
+pub mod Filled
+pub mod Places
+pub mod Phases

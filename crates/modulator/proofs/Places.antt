@@ -1,0 +1,153 @@
+-- What is due, by the tests that the code makes. Assumes nothing.
+use mathlib.Core.Path.{_≡_, refl, sym, ap, _∙_}
+use mathlib.Core.Bool.{Bool, true, false, not, _||_, cond}
+use Prim.Native.Nat.{ℕ, zero, suc, _+_, _-_, _*_, _/_, _%_, _<_, _≤_, _^_}
+use native.Mathlib.Omega.{arith}
+use mathlib.Core.List.{List}
+use lib.Dec.{ltb, eqb}
+use lib.IntN.{ℤ, pos, negsuc, _+ℤ_, _-ℤ_}
+use lib.ListN.{getD, length}
+use lib.Signed.{mag, ltZ}
+use borrow.Author.Tests.{ltb-true, ltb-false, lt-ltb, le-ltb, eq-eqb, ne-eqb, eqb-true}
+use Rattle.dsp_types.specs.Ints.{up, dn, less, same}
+use Rattle.dsp_types.specs.Refusals.{outOfCount, wrongLength, notBits}
+use Rattle.modulator.specs.declared.due.Due.{Due}
+use Rattle.modulator.specs.declared.due.Due.the-variants.{Refused, Silence, Symbol}
+use Rattle.modulator.specs.Sender.{bitsRefusal, slotRefusal, inputRefusal, placeIn, symbolAt, dueIn, dueAt, dueIf, Bits}
+
+true-ne : true ≡ false → ⊥
+true-ne e = let z : _≡_ {A = ℕ} 0 1 = cc in omega arith
+
+-- ---- refusals from the input
+
+pub out-of-count : (c : ℤ) → (ltZ c (pos 0) || ltZ (pos 137438953471) c) ≡ outOfCount c
+unfolding outOfCount
+out-of-count (pos n) = rw (le-ltb n 0 (omega arith))
+out-of-count (negsuc n) = refl
+
+module _ (bits : List ℕ) where
+  pub no-bits : (b : Bool) → not b ≡ true → 0 ≡ bitsRefusal b bits
+  unfolding bitsRefusal
+  no-bits true e = absurd (true-ne (sym e))
+  no-bits false e = refl
+
+  pub wrong-bits : (b : Bool) → not b ≡ false → (length bits ≡ 510 → ⊥) → 3 ≡ bitsRefusal b bits
+  unfolding bitsRefusal wrongLength
+  wrong-bits true e h = rw (ne-eqb (length bits) 510 h)
+  wrong-bits false e h = absurd (true-ne e)
+
+  pub bad-bits : (b : Bool) → not b ≡ false → length bits ≡ 510 → notBits bits ≡ true → 4 ≡ bitsRefusal b bits
+  unfolding bitsRefusal wrongLength
+  bad-bits true e h k = rw (eq-eqb (length bits) 510 h, k)
+  bad-bits false e h k = absurd (true-ne e)
+
+  pub good-bits : (b : Bool) → not b ≡ false → length bits ≡ 510 → notBits bits ≡ false → 0 ≡ bitsRefusal b bits
+  unfolding bitsRefusal wrongLength
+  good-bits true e h k = rw (eq-eqb (length bits) 510 h, k)
+  good-bits false e h k = absurd (true-ne e)
+
+pub refused-bits : (slot n : ℕ) → (n ≡ 0 → ⊥) → n ≡ slotRefusal slot n
+unfolding slotRefusal
+refused-bits slot zero h = absurd (h refl)
+refused-bits slot (suc n) h = refl
+
+-- ---- what an accepted call has
+
+module _ (c : ℤ) (slot : ℕ) (b : Bool) (bits : List ℕ) (h : inputRefusal c slot b bits ≡ 0) where
+  counted : outOfCount c ≡ false
+  unfolding inputRefusal
+  counted = go (outOfCount c) refl
+    where
+      go : (o : Bool) → outOfCount c ≡ o → o ≡ false
+      go true e = absurd (omega (arith, rw e at h))
+      go false e = refl
+
+  pub accepted-count : (c ≡ pos (mag c)) × (mag c < 2 ^ 37)
+  unfolding outOfCount
+  accepted-count = go c counted
+    where
+      go : (z : ℤ) → outOfCount z ≡ false → (z ≡ pos (mag z)) × (mag z < 2 ^ 37)
+      go (pos n) e = (refl, omega (arith, ltb-false 137438953471 n e))
+      go (negsuc n) e = absurd (true-ne e)
+
+  pub slot-accepted : slotRefusal slot (bitsRefusal b bits) ≡ 0
+  unfolding inputRefusal
+  slot-accepted = rw counted at h
+
+  bits-accepted : bitsRefusal b bits ≡ 0
+  unfolding slotRefusal
+  bits-accepted = go (bitsRefusal b bits) slot-accepted
+    where
+      go : (n : ℕ) → slotRefusal slot n ≡ 0 → n ≡ 0
+      go zero e = refl
+      go (suc n) e = e
+
+  pub accepted-bits : Bits b bits
+  unfolding bitsRefusal wrongLength
+  accepted-bits = record { long = λ e. go (eqb (length bits) 510) refl (rw e at bits-accepted) }
+    where
+      go : (o : Bool) → eqb (length bits) 510 ≡ o → _≡_ {A = ℕ} (cond (not o) 3 (cond (notBits bits) 4 0)) 0 → length bits ≡ 510
+      go true e k = eqb-true (length bits) 510 e
+      go false e k = absurd (omega (arith, k))
+
+-- ---- what is due in a slot
+
+module _ (n slot : ℕ) where
+  place-early : n + 16 < slot * 1020 → placeIn (pos n) slot ≡ negsuc (slot * 1020 - suc (n + 16))
+  unfolding placeIn
+  place-early h = same _ _ (omega (arith, less (pos (n + 16)) (pos (slot * 1020))))
+
+  place-within : slot * 1020 ≤ n + 16 → placeIn (pos n) slot ≡ pos (n + 16 - slot * 1020)
+  unfolding placeIn
+  place-within h = same _ _ (omega (arith, less (pos (n + 16)) (pos (slot * 1020))))
+
+  module _ (b : Bool) (bits : List ℕ) where
+    pub early : n + 16 < slot * 1020 → Silence ≡ dueAt b bits (placeIn (pos n) slot)
+    unfolding dueAt
+    early h = rw (place-early h)
+
+    pub late : slot * 1020 ≤ n + 16 → 1020 ≤ n + 16 - slot * 1020 → Refused 12 ≡ dueAt b bits (placeIn (pos n) slot)
+    unfolding dueAt
+    late h k = rw (place-within h, le-ltb (n + 16 - slot * 1020) 1020 k)
+
+    pub within : slot * 1020 ≤ n + 16 → n + 16 - slot * 1020 < 1020 → dueAt b bits (placeIn (pos n) slot) ≡ dueIn b bits (n + 16 - slot * 1020)
+    unfolding dueAt
+    within h k = rw (place-within h, lt-ltb (n + 16 - slot * 1020) 1020 k)
+
+absent-in : (b : Bool) (bits : List ℕ) (p : ℕ) → not b ≡ true → Silence ≡ dueIn b bits p
+unfolding dueIn
+absent-in true bits p e = absurd (true-ne (sym e))
+absent-in false bits p e = refl
+
+between-in : (b : Bool) (bits : List ℕ) (p : ℕ) → not b ≡ false → (p % 4 ≡ 0 → ⊥) → Silence ≡ dueIn b bits p
+unfolding dueIn
+between-in true bits p e h = rw (ne-eqb (p % 4) 0 h)
+between-in false bits p e h = absurd (true-ne e)
+
+symbol-in : (b : Bool) (bits : List ℕ) (p : ℕ) → not b ≡ false → p % 4 ≡ 0 → symbolAt bits p ≡ dueIn b bits p
+unfolding dueIn
+symbol-in true bits p e h = rw (eq-eqb (p % 4) 0 h)
+symbol-in false bits p e h = absurd (true-ne e)
+
+module _ (n slot : ℕ) (b : Bool) (bits : List ℕ) (h : slot * 1020 ≤ n + 16) (k : n + 16 - slot * 1020 < 1020) where
+  pub absent : not b ≡ true → Silence ≡ dueAt b bits (placeIn (pos n) slot)
+  absent e = absent-in b bits _ e ∙ sym (within n slot b bits h k)
+
+  pub between : not b ≡ false → ((n + 16 - slot * 1020) % 4 ≡ 0 → ⊥) → Silence ≡ dueAt b bits (placeIn (pos n) slot)
+  between e f = between-in b bits _ e f ∙ sym (within n slot b bits h k)
+
+  pub symbol : not b ≡ false → (n + 16 - slot * 1020) % 4 ≡ 0 → (i : ℕ) → i ≡ (n + 16 - slot * 1020) / 4 * 2
+      → Symbol (not (eqb (getD bits i 0) 0)) (not (eqb (getD bits (i + 1) 0) 0)) ≡ dueAt b bits (placeIn (pos n) slot)
+  unfolding symbolAt
+  symbol e f i g =
+      let j : i ≡ 2 * ((n + 16 - slot * 1020) / 4) = omega (arith, g) in
+      rw j (symbol-in b bits _ e f ∙ sym (within n slot b bits h k))
+
+pub refused : (n : ℕ) (d : Due) → (n ≡ 0 → ⊥) → Refused n ≡ dueIf n d
+unfolding dueIf
+refused zero d h = absurd (h refl)
+refused (suc n) d h = refl
+
+pub given : (b : Bool) {bits : List ℕ} → not b ≡ false → Bits b bits → length bits ≡ 510
+given true e h = h .long refl
+given false e h = absurd (true-ne e)

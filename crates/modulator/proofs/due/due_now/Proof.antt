@@ -1,0 +1,60 @@
+-- `due::due_now` meets its contract.
+use mathlib.Core.Path.{_≡_, ap, sym, _∙_}
+use lib.IntN.{ℤ, pos}
+use lib.Signed.{mag}
+use mir.Syntax.{w64}
+use mir.Val.{SFits}
+use mir.ValLaws.{toZ-ofZ}
+use Rattle.modulator.specs.Sender.{inputRefusal, placeIn, dueAt, dueOf, dueIf}
+use Rattle.modulator.proofs.Places.{refused, accepted-count, accepted-bits}
+use borrow.Author.Needs.{needs}
+use Rattle.modulator.proofs.due.due_now.Statement.{statement}
+use Rattle.modulator.proofs.due.due_now.Tie as tie
+use Rattle.modulator.proofs.due.due_now.Reads as reads
+use Rattle.modulator.proofs.due.due_now.Lts as lts
+use Rattle.dsp_types.proofs.unsigned.Reads as unsigned-reads
+use Rattle.modulator.proofs.due.due_at.Reads as due-at-reads
+use Rattle.modulator.proofs.due.input_refusal.Reads as input-refusal-reads
+
+counter-fits : (c : tie.After-input-refusal) → SFits w64 (c .before .before .before .args .counter .0)
+counter-fits c = search needs
+
+refusal : (c : tie.After-input-refusal) → let a = c .before .before .before .args in
+    c .input-refusal .result ≡ inputRefusal (a .counter .0) (a .slot .0) (a .has-bits) (a .bits .now)
+refusal c = rw (toZ-ofZ w64 _ (counter-fits c)) at (c .input-refusal .ensures)
+
+sized : (c : tie.After-unsigned) → c .unsigned .result ≡ mag (c .before .before .before .before .before .before .args .counter .0)
+sized c = rw (toZ-ofZ w64 _ (counter-fits (c .before .before .before))) at (c .unsigned .ensures)
+
+input-refusal-requires : tie.Need-input-refusal-requires
+input-refusal-requires c κs = search needs
+
+returns : tie.Need-returns
+unfolding dueOf
+returns c =
+    rw (sym (refusal (c .before))) (refused _ _ (c .if1 .taken))
+
+unsigned-requires : tie.Need-unsigned-requires
+unsigned-requires c κs = search needs
+
+due-at-requires : tie.Need-due-at-requires
+due-at-requires c κs =
+    let p = c .before .before .before in
+    let a = p .before .before .before .args in
+    let z = sym (refusal p) ∙ c .before .before .if1 .left in
+    rw (sized c) (accepted-count (a .counter .0) (a .slot .0) (a .has-bits) (a .bits .now) z .1, accepted-bits (a .counter .0) (a .slot .0) (a .has-bits) (a .bits .now) z)
+
+returns-2 : tie.Need-returns-2
+unfolding dueOf dueIf
+returns-2 c =
+    let p = c .before .before .before .before in
+    let a = p .before .before .before .args in
+    let z = sym (refusal p) ∙ c .before .before .before .if1 .left in
+    rw z
+    (c .due-at .ensures
+    ∙ ap (λ (n : ℤ). dueAt (a .has-bits) (a .bits .now) (placeIn n (a .slot .0)))
+    (ap pos (sized (c .before)) ∙ sym (accepted-count (a .counter .0) (a .slot .0) (a .has-bits) (a .bits .now) z .0)))
+
+pub due-now-spec : {M : Type 1} → statement M
+due-now-spec =
+    tie.close (tie.spec input-refusal-requires returns unsigned-requires due-at-requires returns-2)

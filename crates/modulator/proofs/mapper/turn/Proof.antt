@@ -1,0 +1,25 @@
+-- `mapper::turn` meets its contract: a case for each symbol.
+use Rattle.modulator.specs.Dqpsk.{turnOf}
+use Rattle.modulator.proofs.mapper.turn.Statement.{statement}
+use Rattle.modulator.proofs.mapper.turn.Tie as tie
+use Rattle.modulator.proofs.mapper.turn.Reads as reads
+use Rattle.modulator.proofs.mapper.turn.Lts as lts
+
+returns : tie.Need-returns
+unfolding turnOf
+returns c = rw (c .before .if1 .taken, c .if2 .taken)
+
+returns-2 : tie.Need-returns-2
+unfolding turnOf
+returns-2 c = rw (c .before .if1 .taken, c .if2 .left)
+
+returns-3 : tie.Need-returns-3
+unfolding turnOf
+returns-3 c = rw (c .before .if1 .left, c .if3 .taken)
+
+returns-4 : tie.Need-returns-4
+unfolding turnOf
+returns-4 c = rw (c .before .if1 .left, c .if3 .left)
+
+pub turn-spec : {M : Type 1} → statement M
+turn-spec = tie.close (tie.spec returns returns-2 returns-3 returns-4)

@@ -1,0 +1,51 @@
+-- `Modulator::feed` meets its contract: a case for each variant.
+use Rattle.modulator.specs.Sender.{told, toldOf, nextLine}
+use borrow.Author.Needs.{needs}
+use Rattle.modulator.proofs.sender.Modulator.feed.Statement.{statement}
+use Rattle.modulator.proofs.sender.Modulator.feed.Tie as tie
+use Rattle.modulator.proofs.sender.Modulator.feed.Reads as reads
+use Rattle.modulator.proofs.sender.Modulator.feed.Lts as lts
+use Rattle.modulator.proofs.sender.Modulator.shape.Reads as shape-reads
+
+enum-known-due : tie.Need-enum-known-due
+enum-known-due c = search needs
+
+enum-told : tie.Need-enum-told
+enum-told c = search needs
+
+shape-requires : tie.Need-shape-requires
+shape-requires c κs = search needs
+
+enum-told-2 : tie.Need-enum-told-2
+enum-told-2 c = search needs
+
+shape-requires-2 : tie.Need-shape-requires-2
+shape-requires-2 c κs = search needs
+
+returns : tie.Need-returns
+unfolding told toldOf nextLine
+returns c =
+    (rw (c .before .due .given .1), rw (c .before .due .given .1))
+
+returns-2 : tie.Need-returns-2
+unfolding toldOf nextLine
+returns-2 c =
+    (rw (c .before .enum-told .given .1) (c .shape .ensures .0), rw (c .before .enum-told .given .1) (c .shape .ensures .1))
+
+returns-3 : tie.Need-returns-3
+unfolding toldOf nextLine
+returns-3 c =
+    (rw (c .before .enum-told2 .given .1) (c .shape2 .ensures .0), rw (c .before .enum-told2 .given .1) (c .shape2 .ensures .1))
+
+pub feed-spec : {M : Type 1} → statement M
+feed-spec =
+    tie.close
+    (tie.spec
+    enum-known-due
+    enum-told
+    shape-requires
+    enum-told-2
+    shape-requires-2
+    returns
+    returns-2
+    returns-3)

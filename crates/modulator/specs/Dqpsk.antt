@@ -1,0 +1,52 @@
+-- The mapper (01, "Burst bits", "The sender"; modulator.rs, `DqpskMapper::symbol`): phases in eighths of a turn, and their points. Definitions only.
+use Prim.Native.Nat.{ℕ, _+_, _-_, _%_}
+use mathlib.Core.Bool.{Bool, true, false}
+use mathlib.Core.List.{List, [], _∷_}
+use lib.ListN.{getD}
+use lib.Ieee.{Float, binary32, nan, ofBits}
+use Rattle.dsp_types.specs.declared.ComplexSample.{ComplexSample}
+use Rattle.dsp_types.specs.Samples.{zeroF, silence}
+use Rattle.modulator.specs.declared.due.Due.{Due}
+use Rattle.modulator.specs.declared.due.Due.the-variants.{Refused, Silence, Symbol}
+
+-- the phase of a symbol's two bits, modulo 8: 00 +1, 01 +3, 10 −1, 11 −3 (EN 300 392-2, clause 5.5.2.3)
+unfoldable pub turnOf : Bool → Bool → ℕ
+turnOf false false = 1
+turnOf false true = 3
+turnOf true false = 8 - 1
+turnOf true true = 8 - 3
+
+-- the phase after a symbol
+unfoldable pub nextPhase : ℕ → Bool → Bool → ℕ
+nextPhase phase bit0 bit1 = (phase + turnOf bit0 bit1) % 8
+
+-- the constellation (CONSTELLATION), as f32 bit patterns: 1.0 is 0x3f800000, 0.707107 is 0x3f3504f7, and 0x80000000 is their sign
+unfoldable pub pointsRe : List Float
+pointsRe =
+    ofBits binary32 0x3f80_0000 ∷ ofBits binary32 0x3f35_04f7 ∷ ofBits binary32 0 ∷ ofBits binary32 0xbf35_04f7
+    ∷ ofBits binary32 0xbf80_0000 ∷ ofBits binary32 0xbf35_04f7 ∷ ofBits binary32 0x8000_0000 ∷ ofBits binary32 0x3f35_04f7
+    ∷ []
+
+unfoldable pub pointsIm : List Float
+pointsIm =
+    ofBits binary32 0 ∷ ofBits binary32 0x3f35_04f7 ∷ ofBits binary32 0x3f80_0000 ∷ ofBits binary32 0x3f35_04f7
+    ∷ ofBits binary32 0 ∷ ofBits binary32 0xbf35_04f7 ∷ ofBits binary32 0xbf80_0000 ∷ ofBits binary32 0xbf35_04f7
+    ∷ []
+
+-- the point of a phase
+unfoldable pub pointOf : ℕ → ComplexSample
+pointOf phase = record { re = getD pointsRe (phase % 8) nan; im = getD pointsIm (phase % 8) nan }
+
+-- ---- one call of the sender
+
+-- the phase after what is due: a symbol steps it
+unfoldable pub phaseAfter : ℕ → Due → ℕ
+phaseAfter phase (Refused n) = phase
+phaseAfter phase Silence = phase
+phaseAfter phase (Symbol bit0 bit1) = nextPhase phase bit0 bit1
+
+-- what is fed to the filter, where this is the phase after what is due
+unfoldable pub inputOf : ℕ → Due → ComplexSample
+inputOf phase (Refused n) = silence
+inputOf phase Silence = silence
+inputOf phase (Symbol bit0 bit1) = pointOf phase

@@ -1,0 +1,3 @@
+pub mod Blocks
+pub mod Dqpsk
+pub mod Sender

@@ -1,0 +1,192 @@
+// A block of samples in one call, for gateways: what the calls one by one would send.
+use crate::due::due_at;
+use crate::due::input_refusal;
+use crate::mapper::DqpskMapper;
+use crate::mapper::input;
+use crate::mapper::phase_after;
+use crate::sender::Modulator;
+use dsp_types::SampleCount;
+use dsp_types::TdmaTime;
+ghost use mathlib.Core.Path.{_≡_};
+ghost use mathlib.Core.Bool.{cond};
+ghost use Prim.Native.Nat.{_+_, _≤_, _<_, _^_, min};
+ghost use lib.Dec.{eqb};
+ghost use lib.ListN.{length, take};
+ghost use Rattle.fir.specs.Fir.{reOf, imOf};
+ghost use Rattle.modulator.specs.Sender.{Bits, senderOf};
+ghost use Rattle.modulator.specs.Blocks.{dueAfter, sentBlock, Wrote, placeDue, inputsOf, phasesOf, fedBlock, leftOf};
+
+pub struct Sent {
+    // How many samples were written.
+    pub count: usize,
+    // 0, or the number by which the next sample was refused.
+    pub refusal: u32,
+    pub modulator: Modulator,
+    pub mapper: DqpskMapper,
+}
+
+fn least(a: usize, b: usize) -> usize
+    ensures { λ r. ⌜ r ≡ min a b ⌝ }
+{
+    if a < b { a } else { b }
+}
+
+// How many samples there are before the counter or the slot ends.
+fn left(counter: u64, slot: u32) -> usize
+    requires { ⌜ counter < 2 ^ 37 ⌝ }
+    ensures { λ r. ⌜ r ≡ leftOf counter slot ⌝ }
+{
+    let end = slot as u64 * 1020 + 1020;
+    let counted = (137_438_953_472 - counter) as usize;
+    if end <= counter + 16 {
+        return 0;
+    }
+    least(counted, (end - (counter + 16)) as usize)
+}
+
+// The refusal of the sample behind them.
+fn end_refusal(counter: u64, left: usize) -> u32
+    requires { ⌜ counter + left ≤ 2 ^ 37 ⌝ }
+    ensures { λ r. ⌜ r ≡ cond (eqb (counter + left) (2 ^ 37)) 2 12 ⌝ }
+{
+    if counter + left as u64 == 137_438_953_472 {
+        2
+    } else {
+        12
+    }
+}
+
+// What is fed to the filter for so many samples, none of them refused; the phase after them is returned.
+fn fill(
+    re: &mut [f32],
+    im: &mut [f32],
+    count: usize,
+    phase: u8,
+    counter: u64,
+    slot: u32,
+    has_bits: bool,
+    bits: &[u8],
+) -> u8
+    requires { ⌜ (count ≤ length (now re)) × (count ≤ length (now im)) × (counter + count ≤ 2 ^ 37) × Bits «has_bits» (now bits) ⌝ }
+    ensures { λ r. ⌜
+        (let due = placeDue counter slot «has_bits» (now (bits .entry)) in
+        (r ≡ phasesOf due count 0 phase)
+        × ((take count (now (re .exit)) ≡ reOf (inputsOf due count 0 phase))
+        × (take count (now (im .exit)) ≡ imOf (inputsOf due count 0 phase)))) ⌝ }
+{
+    let mut next = phase;
+    for n in 0..count {
+        let due = due_at(counter + n as u64, slot, has_bits, bits);
+        next = phase_after(next, due);
+        let x = input(next, due);
+        re[n] = x.re;
+        im[n] = x.im;
+    }
+    next
+}
+
+impl Modulator {
+    // Sends so many samples, none of them refused.
+    fn send(
+        self,
+        mapper: DqpskMapper,
+        count: usize,
+        refusal: u32,
+        counter: u64,
+        slot: u32,
+        has_bits: bool,
+        bits: &[u8],
+        out_re: &mut [f32],
+        out_im: &mut [f32],
+    ) -> Sent
+        requires { ⌜ (count ≤ 256) × (count ≤ length (now «out_re»)) × (count ≤ length (now «out_im»)) × (counter + count ≤ 2 ^ 37) × Bits «has_bits» (now bits) ⌝ }
+        ensures { λ r. ⌜ Wrote (fedBlock (placeDue counter slot «has_bits» (now (bits .entry))) count refusal (senderOf self mapper))
+            (r .count) (r .refusal) (senderOf (r .modulator) (r .mapper)) (now («out_re» .entry)) (now («out_re» .exit)) (now («out_im» .entry)) (now («out_im» .exit)) ⌝ }
+    {
+        let mut re = [0.0f32; 256];
+        let mut im = [0.0f32; 256];
+        let phase = fill(
+            &mut re,
+            &mut im,
+            count,
+            mapper.phase,
+            counter,
+            slot,
+            has_bits,
+            bits,
+        );
+        let line = self.filter;
+        let filter = line.block(&re[..count], &im[..count], out_re, out_im);
+        Sent {
+            count,
+            refusal,
+            modulator: Modulator { filter },
+            mapper: DqpskMapper { phase },
+        }
+    }
+
+    // As many samples as both buffers have room for, at most 256, or up to the first that is refused. What is
+    // behind them in the buffers is left as it was.
+    pub fn block(
+        self,
+        mapper: DqpskMapper,
+        sample_counter: SampleCount,
+        slot: TdmaTime,
+        has_bits: bool,
+        bits: &[u8],
+        out_re: &mut [f32],
+        out_im: &mut [f32],
+    ) -> Sent
+        ensures { λ r. ⌜
+            (let room = min 256 (min (length (now («out_re» .entry))) (length (now («out_im» .entry)))) in
+            let due = dueAfter («sample_counter» .0) (slot .0) «has_bits» (now (bits .entry)) in
+            Wrote (sentBlock due room 0 (senderOf self mapper))
+            (r .count) (r .refusal) (senderOf (r .modulator) (r .mapper)) (now («out_re» .entry)) (now («out_re» .exit)) (now («out_im» .entry)) (now («out_im» .exit))) ⌝ }
+    {
+        let room = least(256, least(out_re.len(), out_im.len()));
+        if room == 0 {
+            return Sent {
+                count: 0,
+                refusal: 0,
+                modulator: self,
+                mapper,
+            };
+        }
+        let refusal = input_refusal(sample_counter.0, slot.0, has_bits, bits);
+        if refusal != 0 {
+            return Sent {
+                count: 0,
+                refusal,
+                modulator: self,
+                mapper,
+            };
+        }
+        let counter = dsp_types::unsigned(sample_counter.0);
+        let left = left(counter, slot.0);
+        if room <= left {
+            return self.send(
+                mapper,
+                room,
+                0,
+                counter,
+                slot.0,
+                has_bits,
+                bits,
+                out_re,
+                out_im,
+            );
+        }
+        let end = end_refusal(counter, left);
+        self.send(
+            mapper,
+            left,
+            end,
+            counter,
+            slot.0,
+            has_bits,
+            bits,
+            out_re,
+            out_im,
+        )
+    }
+}

@@ -1,0 +1,86 @@
+// What one call of the sender is to feed to its filter, or its refusal.
+use dsp_types::SampleCount;
+use dsp_types::TdmaTime;
+ghost use mathlib.Core.Path.{_≡_};
+ghost use Prim.Native.Nat.{_≤_, _<_, _^_};
+ghost use lib.IntN.{pos};
+ghost use lib.ListN.{length};
+ghost use Rattle.dsp_types.specs.Refusals.{outOfCount};
+ghost use Rattle.modulator.specs.Sender.{bitsRefusal, inputRefusal, placeIn, dueAt, dueOf, Bits};
+
+pub enum Due {
+    Refused(u32),
+    // The slot is in the future, has no bits, or no symbol starts here.
+    Silence,
+    Symbol(bool, bool),
+}
+
+fn is_out_of_count(counter: i64) -> bool
+    ensures { λ r. ⌜ r ≡ outOfCount counter ⌝ }
+{
+    (counter < 0) | (137_438_953_471 < counter)
+}
+
+fn bits_refusal(has_bits: bool, bits: &[u8]) -> u32
+    ensures { λ r. ⌜ r ≡ bitsRefusal «has_bits» (now (bits .entry)) ⌝ }
+{
+    if !has_bits {
+        return 0;
+    }
+    if bits.len() != 510 {
+        return 3;
+    }
+    if dsp_types::not_bits(bits) {
+        return 4;
+    }
+    0
+}
+
+pub(crate) fn input_refusal(counter: i64, slot: u32, has_bits: bool, bits: &[u8]) -> u32
+    ensures { λ r. ⌜ r ≡ inputRefusal counter slot «has_bits» (now (bits .entry)) ⌝ }
+{
+    if is_out_of_count(counter) {
+        return 2;
+    }
+    let refusal = bits_refusal(has_bits, bits);
+    if refusal != 0 {
+        return refusal;
+    }
+    if 283_115_519 < slot {
+        return 6;
+    }
+    0
+}
+
+// What is due under an accepted counter: the filter's delay of 16 samples is made up for.
+pub(crate) fn due_at(counter: u64, slot: u32, has_bits: bool, bits: &[u8]) -> Due
+    requires { ⌜ (counter < 2 ^ 37) × Bits «has_bits» (now bits) ⌝ }
+    ensures { λ r. ⌜ r ≡ dueAt «has_bits» (now (bits .entry)) (placeIn (pos counter) slot) ⌝ }
+{
+    let begin = slot as u64 * 1020;
+    if counter + 16 < begin {
+        return Due::Silence;
+    }
+    let place = counter + 16 - begin;
+    if 1020 <= place {
+        return Due::Refused(12);
+    }
+    if !has_bits {
+        return Due::Silence;
+    }
+    if place % 4 != 0 {
+        return Due::Silence;
+    }
+    let i = (place / 4 * 2) as usize;
+    Due::Symbol(bits[i] != 0, bits[i + 1] != 0)
+}
+
+pub fn due_now(counter: SampleCount, slot: TdmaTime, has_bits: bool, bits: &[u8]) -> Due
+    ensures { λ r. ⌜ r ≡ dueOf (counter .0) (slot .0) «has_bits» (now (bits .entry)) ⌝ }
+{
+    let refusal = input_refusal(counter.0, slot.0, has_bits, bits);
+    if refusal != 0 {
+        return Due::Refused(refusal);
+    }
+    due_at(dsp_types::unsigned(counter.0), slot.0, has_bits, bits)
+}

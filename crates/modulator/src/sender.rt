@@ -1,0 +1,90 @@
+// The sender: its pulse shaping filter, and one sample a call.
+use crate::due::Due;
+use crate::due::due_now;
+use crate::mapper::DqpskMapper;
+use dsp_types::ComplexSample;
+use dsp_types::SampleCount;
+use dsp_types::TdmaTime;
+use fir::FirComplexSym;
+ghost use mathlib.Core.Path.{_≡_};
+ghost use mathlib.Core.List.{_∷_};
+ghost use lib.ListN.{take, replicate};
+ghost use Rattle.dsp_types.specs.Samples.{silence};
+ghost use Rattle.fir.specs.Fir.{lineOf};
+ghost use Rattle.modulator.specs.Sender.{dueOf, told, shapedOf, toldOf, nextLine, senderOf, tells, after};
+
+pub enum Answer {
+    Sample { re: f32, im: f32 },
+    Refused(u32),
+}
+
+pub struct Modulator {
+    // Pulse shaping filter.
+    pub filter: FirComplexSym,
+}
+
+pub struct Sampled {
+    pub answer: Answer,
+    pub modulator: Modulator,
+}
+
+impl Modulator {
+    pub fn new() -> Modulator
+        ensures { λ r. ⌜ lineOf (r .filter) ≡ replicate 32 silence ⌝ }
+    {
+        let filter = FirComplexSym::new();
+        Modulator { filter }
+    }
+
+    // Sends one input through the filter.
+    fn shape(self, input: ComplexSample) -> Sampled
+        ensures { λ r. ⌜ (told (r .answer) ≡ shapedOf (lineOf (self .filter)) input)
+            × (lineOf (r .modulator .filter) ≡ take 32 (input ∷ lineOf (self .filter))) ⌝ }
+    {
+        let line = self.filter;
+        let filtered = line.sample(input);
+        let out = filtered.out;
+        let filter = filtered.line;
+        Sampled {
+            answer: Answer::Sample {
+                re: out.re,
+                im: out.im,
+            },
+            modulator: Modulator { filter },
+        }
+    }
+
+    // What is due goes through the filter. A refusal leaves the filter as it is.
+    pub(crate) fn feed(self, due: Due, input: ComplexSample) -> Sampled
+        ensures { λ r. ⌜ (told (r .answer) ≡ toldOf (lineOf (self .filter)) input due)
+            × (lineOf (r .modulator .filter) ≡ nextLine (lineOf (self .filter)) input due) ⌝ }
+    {
+        match due {
+            Due::Refused(number) => Sampled {
+                answer: Answer::Refused(number),
+                modulator: self,
+            },
+            Due::Silence => self.shape(input),
+            Due::Symbol(_, _) => self.shape(input),
+        }
+    }
+
+    // Produces one output sample, or refuses and changes nothing. Bits count where the slot has them.
+    pub fn sample(
+        self,
+        mapper: &mut DqpskMapper,
+        sample_counter: SampleCount,
+        slot: TdmaTime,
+        has_bits: bool,
+        bits: &[u8],
+    ) -> Sampled
+        ensures { λ r. ⌜
+            (let d = dueOf («sample_counter» .0) (slot .0) «has_bits» (now (bits .entry)) in
+            (told (r .answer) ≡ tells (senderOf self (now (mapper .entry))) d)
+            × (senderOf (r .modulator) (now (mapper .exit)) ≡ after (senderOf self (now (mapper .entry))) d)) ⌝ }
+    {
+        let d = due_now(sample_counter, slot, has_bits, bits);
+        let input = mapper.symbol(d);
+        self.feed(d, input)
+    }
+}
