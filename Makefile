@@ -1,7 +1,8 @@
 # make demo      the main job, on a shipped example
 # make test      every proof, every must-fail edit, every program and test; the gate
 # make compare   the same calls through this library and through the original Rust, answers compared
-.PHONY: demo test compare
+# make bench     nanoseconds a sample of the filter and the magnitude, beside the original Rust and the machine's hypot
+.PHONY: demo test compare bench
 
 demo:
 	@rt check listing >/dev/null
@@ -13,3 +14,8 @@ test:
 compare:
 	@rt check replay >/dev/null
 	@compare/run full $$(cat tests/replay/kinds)
+
+bench:
+	@rt staticlib bench_signal >/dev/null 2>&1 || rt check bench_signal
+	@BENCH_LIBRARY=$(CURDIR)/target/staticlib/libbench_signal.a cargo run --quiet --offline --profile timed \
+		--features bench --bin bench --manifest-path compare/Cargo.toml --target-dir compare/target

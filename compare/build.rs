@@ -48,6 +48,10 @@ fn main() {
     println!("cargo:rerun-if-env-changed=TETRA_SOURCE");
     println!("cargo:rerun-if-changed=build.rs");
 
+    if env::var("CARGO_FEATURE_BENCH").is_ok() {
+        link_bench();
+    }
+
     let mut tree = String::from("pub mod phy {\n");
     for (module, folder, files) in MODULES {
         tree += &format!("pub mod {module} {{\n");
@@ -63,6 +67,16 @@ fn main() {
         tree += "}\n";
     }
     write(&out.join("original.rs"), &(tree + "}\n"));
+}
+
+/// Links the static library with the timed functions into the bench program.
+fn link_bench() {
+    println!("cargo:rerun-if-env-changed=BENCH_LIBRARY");
+    let Ok(library) = env::var("BENCH_LIBRARY") else {
+        stop("BENCH_LIBRARY must name libbench_signal.a");
+    };
+    println!("cargo:rerun-if-changed={library}");
+    println!("cargo:rustc-link-arg-bin=bench={library}");
 }
 
 fn declaration(folder: &Path, module: &str) -> String {

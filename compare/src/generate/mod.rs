@@ -8,7 +8,7 @@ mod malformed;
 pub mod random;
 mod receiver;
 mod sender;
-mod signal;
+pub mod signal;
 
 use crate::refusals::LARGEST_COUNTER;
 use random::Random;

@@ -27,7 +27,7 @@ cut (suc k) (suc m) h = ap (λ (l : List ℕ). 7 ∷ l) (cut k m (omega arith))
 
 -- a lent slice, and its length
 module _ {bytes : List ℕ} (m n k : ℕ) (b : bytes ≡ replicate m 7) (e : k ≡ min n m) where
-  pub lent-fits : k ≤ length bytes
+  lent-fits : k ≤ length bytes
   lent-fits = rw (b, length-replicate {A = ℕ} m 7, e) (min-le-right n m)
 
   pub lent-length : k ≡ length (take k bytes)
@@ -62,8 +62,7 @@ pub shortest : (kinds re im counters slot subslot1 subslot2 n : ℕ) → n ≡ f
 unfolding fewest
 shortest a b c d e f g n p =
     rw p
-    (let r5 = min-le-right e (min f g) in
-    let h1 = min-le-right a (min b (min c (min d (min e (min f g))))) in
+    (let h1 = min-le-right a (min b (min c (min d (min e (min f g))))) in
     let h2 = le-trans h1 (min-le-right b (min c (min d (min e (min f g))))) in
     let h3 = le-trans h2 (min-le-right c (min d (min e (min f g)))) in
     let h4 = le-trans h3 (min-le-right d (min e (min f g))) in

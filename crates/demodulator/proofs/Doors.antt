@@ -21,7 +21,7 @@ use Rattle.demodulator.specs.View.{viewOf, clockOf, signalOf}
 use Rattle.demodulator.proofs.Samples.{counter-before}
 use Rattle.demodulator.proofs.Steps.{sample-timed, timed-longer}
 
-valid-within : (most : ℕ) (z : ℤ) → Within (most + 1) (validTime most z)
+pub valid-within : (most : ℕ) (z : ℤ) → Within (most + 1) (validTime most z)
 unfolding validTime
 valid-within most z = go z (leb (mag z) most) refl
   where

@@ -7,3 +7,7 @@ mod Times
 mod Steps
 mod Doors
 mod Taking
+mod Handing
+mod Feeding
+mod Keeping
+mod Rows

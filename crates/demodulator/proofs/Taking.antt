@@ -10,7 +10,6 @@ use lib.ListN.{length, getD, set, take, drop, replicate, drop-of-length-le}
 use lib.Seq.{take-all}
 use mathlib.Core.Logic.{⊎-elim}
 use borrow.Author.Tests.{ne-eqb, eqb-true}
-use Rattle.dsp_types.specs.declared.ComplexSample.{ComplexSample}
 use Rattle.dsp_types.specs.Samples.{zeroF, silence}
 use Rattle.dsp_types.specs.Ring.{ring-zeros, sample-zeros, le-or-lt, newest-same}
 use Rattle.dsp_types.specs.Refusals.{wrongLength}
@@ -21,7 +20,6 @@ use Rattle.demodulator.specs.declared.Mode.{Mode}
 use Rattle.demodulator.specs.declared.Mode.the-variants.{Idle, DlUnsynchronized, Dl, Ul}
 use Rattle.demodulator.specs.declared.SlotBurstFinder.{SlotBurstFinder}
 use Rattle.demodulator.specs.declared.take.TakenView.{TakenView}
-use Rattle.demodulator.specs.declared.take.TakeAnswer.{TakeAnswer}
 use Rattle.demodulator.specs.declared.take.TakeAnswer.the-variants.{Slot, Refused}
 use Rattle.demodulator.specs.Receiver.{Clock, HandedSlot, Receiver}
 use Rattle.demodulator.specs.Calls.{unless, padded, viewIn, burstView, numbersOf, viewNumbers, takeRefusal, takeTold, takeValues, followRefusal, slotWhen, retuned, followed, followOf}

@@ -4,3 +4,5 @@ pub mod Calls
 pub mod Windows
 pub mod View
 pub mod Bounds
+pub mod Feed
+pub mod Quiet

@@ -1,5 +1,6 @@
 // The receiver (demodulator.rs): samples in, slots with their number and bursts out.
 mod clock;
+mod feed;
 mod follow;
 mod listen;
 mod new;
@@ -10,6 +11,8 @@ mod window;
 
 use dsp_types::SampleCount;
 use dsp_types::TdmaTime;
+pub use feed::Fed;
+pub use feed::Stop;
 use fir::FirComplexSym;
 pub use follow::Followed;
 pub use process::Answer;

@@ -31,7 +31,7 @@ pub struct Sampled {
 }
 
 // NaN is neither at least −1,024 nor at most 1,024.
-fn is_beyond(part: f32) -> bool
+pub(crate) fn is_beyond(part: f32) -> bool
     ensures { λ r. ⌜ r ≡ beyond part ⌝ }
 {
     !((-1024.0 <= part) & (part <= 1024.0))
@@ -62,13 +62,13 @@ fn missing_samples(next: i64, counter: i64) -> usize
     if lost < 1020 { lost as usize } else { 1020 }
 }
 
-fn valid_time(t: i64, most: u64) -> i64
+pub(crate) fn valid_time(t: i64, most: u64) -> i64
     ensures { λ r. ⌜ r ≡ validTime most t ⌝ }
 {
     if dsp_types::unsigned(t) <= most { t } else { 0 }
 }
 
-fn valid_count(n: i64) -> i64
+pub(crate) fn valid_count(n: i64) -> i64
     ensures { λ r. ⌜ r ≡ validCount n ⌝ }
 {
     if is_below(n, 0) | is_below(137_438_953_472, n) {

@@ -104,7 +104,8 @@ impl Demodulator {
         ensures subslot2 { λ r. ⌜ now (subslot2 .exit) ≡ unless (takeRefusal (now (slot .entry)) (now (subslot1 .entry)) (now (subslot2 .entry)) (viewOf self .slot .available)) (viewIn 254 (viewOf self .slot .subslot2)) (now (subslot2 .entry)) ⌝ }
     {
         let wrong = (slot.len() != 510) | ((subslot1.len() != 254) | (subslot2.len() != 254));
-        let refusal = take_refusal(wrong, self.demodulated_slot_available);
+        let available = self.demodulated_slot_available;
+        let refusal = take_refusal(wrong, available);
         if refusal != 0 {
             return Taken {
                 answer: TakeAnswer::Refused(refusal),

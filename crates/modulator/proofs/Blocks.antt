@@ -5,13 +5,13 @@ use mathlib.Core.Logic.{⊎-elim}
 use Prim.Native.Nat.{ℕ, zero, suc, _+_, _-_, _*_, _%_, _<_, _≤_, _^_, min}
 use native.Mathlib.Nat.{le-refl}
 use native.Mathlib.Omega.{arith}
-use mathlib.Core.List.{List, [], _∷_, _++_, map, append-nil}
-use lib.Dec.{ltb, eqb}
+use mathlib.Core.List.{List, [], _∷_, _++_, append-nil}
+use lib.Dec.{eqb}
 use lib.IntN.{ℤ, pos, _+ℤ_}
 use lib.ListN.{length, take}
 use lib.Seq.{take-all}
 use lib.Ieee.{Float}
-use borrow.Author.Tests.{lt-ltb, le-ltb, ltb-true, ltb-false, eqb-true, eqb-false}
+use borrow.Author.Tests.{lt-ltb, le-ltb, eqb-true, eqb-false}
 use Rattle.dsp_types.specs.declared.ComplexSample.{ComplexSample}
 use Rattle.dsp_types.specs.Ints.{sum, same}
 use Rattle.dsp_types.specs.Refusals.{outOfCount}
@@ -21,7 +21,7 @@ use Rattle.fir.specs.Fir.{filterOf, lineAfter, outsOf, samplesOf, blockOf, star
 use Rattle.modulator.specs.declared.due.Due.{Due}
 use Rattle.modulator.specs.declared.due.Due.the-variants.{Refused, Silence, Symbol}
 use Rattle.modulator.specs.Dqpsk.{phaseAfter, inputOf}
-use Rattle.modulator.specs.Sender.{slotRefusal, inputRefusal, bitsRefusal, placeIn, symbolAt, dueIn, dueAt, dueIf, dueOf, shapedOf, toldOf, nextLine, Sender, fedBy, tells, after}
+use Rattle.modulator.specs.Sender.{inputRefusal, placeIn, symbolAt, dueIn, dueAt, dueIf, dueOf, shapedOf, toldOf, nextLine, Sender, fedBy, tells, after}
 use Rattle.modulator.specs.Blocks.{Block, joinedIf, joined, sentBlock, dueAfter, Wrote, placeDue, inputsOf, phasesOf, fedBlock, leftOf}
 use Rattle.modulator.proofs.Places.{early, late, within, slot-accepted, refused}
 

@@ -57,11 +57,12 @@ pub(crate) fn due_at(counter: u64, slot: u32, has_bits: bool, bits: &[u8]) -> Du
     requires { ⌜ (counter < 2 ^ 37) × Bits «has_bits» (now bits) ⌝ }
     ensures { λ r. ⌜ r ≡ dueAt «has_bits» (now (bits .entry)) (placeIn (pos counter) slot) ⌝ }
 {
+    let now = counter + 16;
     let begin = slot as u64 * 1020;
-    if counter + 16 < begin {
+    if now < begin {
         return Due::Silence;
     }
-    let place = counter + 16 - begin;
+    let place = now - begin;
     if 1020 <= place {
         return Due::Refused(12);
     }

@@ -1,5 +1,6 @@
 // The calls of a list, and how a line is read.
 use crate::field::Bits;
+use crate::field::Counter;
 use crate::field::Fields;
 use crate::field::Number;
 use crate::field::Sample;
@@ -8,18 +9,29 @@ use crate::field::is;
 use crate::field::letter;
 use crate::field::narrow;
 use crate::field::read_bits;
+use crate::field::read_counter;
 use crate::field::read_number;
 use crate::field::read_sample;
 use crate::field::split;
 use crate::field::text;
 use crate::input::Block;
+use demodulator::Mode;
 use dsp_types::ComplexSample;
+use dsp_types::SampleCount;
 
 const LARGEST_U32: u64 = 0xffff_ffff;
 
 const LONGEST_SLICE: u64 = 4096;
 
+const LAST_RECEIVER: u64 = 3;
+
+const LAST_MODE: u64 = 3;
+
 pub enum Call {
+    // The receiver, 0 to 3, and what is asked of it.
+    Receiver(usize, Asked),
+    // The receiver told to follow, and whom.
+    Follow(usize, usize),
     // Kind, length of the answer bytes, bits.
     Judge(u32, usize, Span),
     // The burst's letter and its blocks, joined.
@@ -36,6 +48,14 @@ pub enum Call {
     Error,
     // No line is left.
     End,
+}
+
+// What is asked of a receiver.
+pub enum Asked {
+    New(Mode),
+    Sample(SampleCount, ComplexSample),
+    // The lengths of the lent slices.
+    Take(usize, usize, usize),
 }
 
 // The kind of burst that is wanted.
@@ -73,12 +93,49 @@ fn is_letter(byte: u8) -> bool {
     }
 }
 
-fn of_three(line: &mut [u8], fields: Fields) -> Call {
-    let name = letter(text(&*line, fields, 0));
-    if name == b'b' {
-        return build_joined(line, fields);
+fn mode_of(number: u64) -> Mode {
+    match number {
+        1 => Mode::DlUnsynchronized,
+        2 => Mode::Dl,
+        3 => Mode::Ul,
+        _ => Mode::Idle,
     }
-    let Sample::Of(x) = read_sample(&*line, fields, 1) else {
+}
+
+fn new_receiver(line: &[u8], fields: Fields) -> Call {
+    let Number::Of(receiver) = read_number(text(line, fields, 1), LAST_RECEIVER) else {
+        return Call::Error;
+    };
+    match read_number(text(line, fields, 2), LAST_MODE) {
+        Number::Of(mode) => Call::Receiver(receiver as usize, Asked::New(mode_of(mode))),
+        Number::Bad => Call::Error,
+    }
+}
+
+fn follow(line: &[u8], fields: Fields) -> Call {
+    let Number::Of(receiver) = read_number(text(line, fields, 1), LAST_RECEIVER) else {
+        return Call::Error;
+    };
+    match read_number(text(line, fields, 2), LAST_RECEIVER) {
+        Number::Of(leader) => Call::Follow(receiver as usize, leader as usize),
+        Number::Bad => Call::Error,
+    }
+}
+
+fn of_three(line: &mut [u8], fields: Fields) -> Call {
+    if is(text(&*line, fields, 0), b"new") {
+        return new_receiver(&*line, fields);
+    }
+    match letter(text(&*line, fields, 0)) {
+        b'f' => follow(&*line, fields),
+        b'b' => build_joined(line, fields),
+        name => on_sample(name, &*line, fields),
+    }
+}
+
+// The calls on a sample alone.
+fn on_sample(name: u8, line: &[u8], fields: Fields) -> Call {
+    let Sample::Of(x) = read_sample(line, fields, 1) else {
         return Call::Error;
     };
     match name {
@@ -137,8 +194,42 @@ fn build(line: &mut [u8], fields: Fields) -> Call {
     }
 }
 
+fn sample(line: &[u8], fields: Fields) -> Call {
+    let Number::Of(receiver) = read_number(text(line, fields, 1), LAST_RECEIVER) else {
+        return Call::Error;
+    };
+    let Counter::Of(counter) = read_counter(text(line, fields, 2)) else {
+        return Call::Error;
+    };
+    match read_sample(line, fields, 3) {
+        Sample::Of(x) => Call::Receiver(receiver as usize, Asked::Sample(counter, x)),
+        Sample::Bad => Call::Error,
+    }
+}
+
+fn take(line: &[u8], fields: Fields) -> Call {
+    let Number::Of(receiver) = read_number(text(line, fields, 1), LAST_RECEIVER) else {
+        return Call::Error;
+    };
+    let Number::Of(slot) = read_number(text(line, fields, 2), LONGEST_SLICE) else {
+        return Call::Error;
+    };
+    let Number::Of(half1) = read_number(text(line, fields, 3), LONGEST_SLICE) else {
+        return Call::Error;
+    };
+    match read_number(text(line, fields, 4), LONGEST_SLICE) {
+        Number::Of(half2) => Call::Receiver(
+            receiver as usize,
+            Asked::Take(slot as usize, half1 as usize, half2 as usize),
+        ),
+        Number::Bad => Call::Error,
+    }
+}
+
 fn of_five(line: &mut [u8], fields: Fields) -> Call {
     match letter(text(&*line, fields, 0)) {
+        b's' => sample(&*line, fields),
+        b't' => take(&*line, fields),
         b'd' => build(line, fields),
         _ => Call::Error,
     }

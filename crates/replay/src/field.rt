@@ -1,5 +1,6 @@
 // The fields of a line: where they lie, and the numbers, samples and bits that they hold.
 use dsp_types::ComplexSample;
+use dsp_types::SampleCount;
 
 // The fields of a line, which are parted by one space. A line of more than five is counted as one of six.
 pub struct Fields {
@@ -15,6 +16,11 @@ pub struct Span {
 
 pub enum Number {
     Of(u64),
+    Bad,
+}
+
+pub enum Counter {
+    Of(SampleCount),
     Bad,
 }
 
@@ -125,6 +131,34 @@ pub fn read_number(text: &[u8], most: u64) -> Number {
         value = next;
     }
     Number::Of(value)
+}
+
+// A number that is known to fit, else the largest that does.
+fn signed(value: u64) -> i64 {
+    if value <= 0x7fff_ffff_ffff_ffff {
+        value as i64
+    } else {
+        0x7fff_ffff_ffff_ffff
+    }
+}
+
+// Minus a number that is at most 2^63. Each bit of the number before it is turned: that is never out of range.
+fn minus(value: u64) -> i64 {
+    if value == 0 { 0 } else { !signed(value - 1) }
+}
+
+// A decimal i64.
+pub fn read_counter(text: &[u8]) -> Counter {
+    if is(part(text, 0, 1), b"-") {
+        return match read_number(part(text, 1, text.len()), 0x8000_0000_0000_0000) {
+            Number::Of(value) => Counter::Of(SampleCount(minus(value))),
+            Number::Bad => Counter::Bad,
+        };
+    }
+    match read_number(text, 0x7fff_ffff_ffff_ffff) {
+        Number::Of(value) => Counter::Of(SampleCount(signed(value))),
+        Number::Bad => Counter::Bad,
+    }
 }
 
 // The value of a hexadecimal digit, or 16.

@@ -8,12 +8,14 @@ mod calls;
 mod field;
 mod input;
 mod output;
+mod receivers;
 mod session;
 
 use calls::Call;
 use input::Block;
 use input::Input;
 use output::Output;
+use receivers::Receiver;
 use session::Session;
 
 struct Next {
@@ -46,18 +48,36 @@ fn main() {
     let mut input = Input::new();
     let mut out = Output::new();
     let mut session = Session::new();
+    let none = Receiver::new();
+    let mut receivers = [none; 4];
     let mut turns = u64::MAX;
     while turns > 0 && !out.is_broken {
         turns -= 1;
         let next = next_call(&mut block, input, &mut line);
         input = next.input;
         let call = next.call;
-        if let Call::End = call {
-            break;
+        match call {
+            Call::End => break,
+            Call::Receiver(r, asked) => {
+                let old = receivers[r % 4];
+                let served = old.serve(out, &mut answers, asked);
+                let new = served.receiver;
+                receivers[r % 4] = new;
+                out = served.out;
+            }
+            Call::Follow(r, q) => {
+                let old = receivers[r % 4];
+                let served = old.follow(out, &mut answers, receivers[q % 4]);
+                let new = served.receiver;
+                receivers[r % 4] = new;
+                out = served.out;
+            }
+            _ => {
+                let step = session.step(out, &mut answers, &line, call);
+                session = step.session;
+                out = step.out;
+            }
         }
-        let step = session.step(out, &mut answers, &line, call);
-        session = step.session;
-        out = step.out;
     }
     out.flush(&answers);
 }

@@ -1,5 +1,4 @@
 -- `Demodulator::follow` meets its contract, by the other's mode.
-use mathlib.Core.Path.{_≡_}
 use Rattle.demodulator.specs.View.{modeOf, viewOf, clockOf, signalOf}
 use Rattle.demodulator.proofs.Views.{mode-search, mode-downlink}
 use Rattle.demodulator.proofs.Taking.{follows-search, follows-lock, follows-none}

@@ -1,5 +1,5 @@
 -- `Demodulator::new` meets its contract: its rings hold zeros, and `set_slot` sets the ready time.
-use mathlib.Core.Path.{_≡_, _∙_}
+use mathlib.Core.Path.{_∙_}
 use Prim.Native.Nat.{_^_}
 use lib.Dec.{lit≤, lit<}
 use Rattle.demodulator.specs.Signal.{quiet}

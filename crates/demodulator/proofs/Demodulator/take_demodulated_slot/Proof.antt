@@ -50,14 +50,14 @@ same-length-3 c = search needs
 returns-2 : tie.Need-returns-2
 unfolding viewOf clockOf signalOf taken
 returns-2 c =
-    let v = c .before .before .before .before .before .before .before .before .before .before in
-    let v1 = c .before .before .before .before .before .before in
     let v2 = c .before .before in
-    let t = c .before .before .before .before .before .before .before .before .before .before .before .before .before .before in
+    let v1 = v2 .before .before .before .before in
+    let v = v1 .before .before .before .before in
+    let t = v .before .before .before .before in
     let a = start t .args in
     let r = viewOf (a .self) in
     let e = refusal t in
-    let z = c .before .before .before .before .before .before .before .before .before .before .before .before .before .if1 .left in
+    let z = v .before .before .before .if1 .left in
     let n = right-lengths (a .slot .now) (a .subslot1 .now) (a .subslot2 .now) (r .slot .available) (sym e ∙ z) in (
       take-told _ (r .slot) (a .self .«demodulated_slot_time») _ _ _ (sym e ∙ z) refl
           (v .take-view .ensures .0 ∙ ap (λ (k : ℕ). numbersOf (burstView k (r .slot .full))) (n .0))

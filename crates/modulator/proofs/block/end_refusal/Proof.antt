@@ -4,8 +4,6 @@ use borrow.Author.Tests.{eq-eqb, ne-eqb}
 use borrow.Author.Needs.{needs}
 use Rattle.modulator.proofs.block.end_refusal.Statement.{statement}
 use Rattle.modulator.proofs.block.end_refusal.Tie as tie
-use Rattle.modulator.proofs.block.end_refusal.Reads as reads
-use Rattle.modulator.proofs.block.end_refusal.Lts as lts
 
 add-if1 : tie.Need-add-if1
 add-if1 c = search needs

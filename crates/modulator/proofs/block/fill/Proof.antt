@@ -12,11 +12,6 @@ use Rattle.modulator.proofs.Filled.{part-start, part-turn, part-end, ph
 use borrow.Author.Needs.{needs}
 use Rattle.modulator.proofs.block.fill.Statement.{statement}
 use Rattle.modulator.proofs.block.fill.Tie as tie
-use Rattle.modulator.proofs.block.fill.Reads as reads
-use Rattle.modulator.proofs.block.fill.Lts as lts
-use Rattle.modulator.proofs.due.due_at.Reads as due-at-reads
-use Rattle.modulator.proofs.mapper.input.Reads as input-reads
-use Rattle.modulator.proofs.mapper.phase_after.Reads as phase-after-reads
 
 abbrev Inv-loop : tie.InvT-loop
 Inv-loop re₀ im₀ count phase counter slot has-bits bits next₀ n₀ re im next n =

@@ -4,9 +4,6 @@ use Rattle.modulator.specs.Blocks.{leftOf}
 use borrow.Author.Needs.{needs}
 use Rattle.modulator.proofs.block.left.Statement.{statement}
 use Rattle.modulator.proofs.block.left.Tie as tie
-use Rattle.modulator.proofs.block.left.Reads as reads
-use Rattle.modulator.proofs.block.left.Lts as lts
-use Rattle.modulator.proofs.block.least.Reads as least-reads
 
 mul-end : tie.Need-mul-end
 mul-end c = search needs

@@ -4,9 +4,6 @@ use Rattle.modulator.proofs.Places.{no-bits, wrong-bits, bad-bits, good
 use borrow.Author.Needs.{needs}
 use Rattle.modulator.proofs.due.bits_refusal.Statement.{statement}
 use Rattle.modulator.proofs.due.bits_refusal.Tie as tie
-use Rattle.modulator.proofs.due.bits_refusal.Reads as reads
-use Rattle.modulator.proofs.due.bits_refusal.Lts as lts
-use Rattle.dsp_types.proofs.not_bits.Reads as not-bits-reads
 
 returns : tie.Need-returns
 returns c = no-bits (c .before .before .args .bits .now) (c .before .before .args .has-bits) (c .if1 .taken)

@@ -5,24 +5,16 @@ use Rattle.modulator.proofs.Places.{early, late, absent, between, symbo
 use borrow.Author.Needs.{needs}
 use Rattle.modulator.proofs.due.due_at.Statement.{statement}
 use Rattle.modulator.proofs.due.due_at.Tie as tie
-use Rattle.modulator.proofs.due.due_at.Reads as reads
-use Rattle.modulator.proofs.due.due_at.Lts as lts
+
+add-now : tie.Need-add-now
+add-now c = search needs
 
 mul-begin : tie.Need-mul-begin
 mul-begin c = search needs
 
-add-if1 : tie.Need-add-if1
-add-if1 c = search needs
-
 returns : tie.Need-returns
 returns c =
     let a = c .before .args in early (a .counter) (a .slot) (a .has-bits) (a .bits .now) (search needs)
-
-add-place : tie.Need-add-place
-add-place c = search needs
-
-sub-place : tie.Need-sub-place
-sub-place c = search needs
 
 returns-2 : tie.Need-returns-2
 returns-2 c =
@@ -39,15 +31,15 @@ returns-4 c =
 mul-i : tie.Need-mul-i
 mul-i c = search needs
 
-shared-slice-read-t12 : tie.Need-shared-slice-read-t12
-shared-slice-read-t12 c =
+shared-slice-read-t13 : tie.Need-shared-slice-read-t13
+shared-slice-read-t13 c =
     let s = c .before .before .before .before .before in omega (arith, given (s .args .has-bits) (c .before .before .if3 .left) (s .pre .1))
 
-add-t13 : tie.Need-add-t13
-add-t13 c = search needs
+add-t14 : tie.Need-add-t14
+add-t14 c = search needs
 
-shared-slice-read-t15 : tie.Need-shared-slice-read-t15
-shared-slice-read-t15 c =
+shared-slice-read-t16 : tie.Need-shared-slice-read-t16
+shared-slice-read-t16 c =
     let s = c .before .before .before .before .before .before in omega (arith, given (s .args .has-bits) (c .before .before .before .if3 .left) (s .pre .1))
 
 returns-5 : tie.Need-returns-5
@@ -58,16 +50,14 @@ pub due-at-spec : {M : Type 1} → statement M
 due-at-spec =
     tie.close
     (tie.spec
+    add-now
     mul-begin
-    add-if1
     returns
-    add-place
-    sub-place
     returns-2
     returns-3
     returns-4
     mul-i
-    shared-slice-read-t12
-    add-t13
-    shared-slice-read-t15
+    shared-slice-read-t13
+    add-t14
+    shared-slice-read-t16
     returns-5)

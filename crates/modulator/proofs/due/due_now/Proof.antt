@@ -10,11 +10,6 @@ use Rattle.modulator.proofs.Places.{refused, accepted-count, accepted-b
 use borrow.Author.Needs.{needs}
 use Rattle.modulator.proofs.due.due_now.Statement.{statement}
 use Rattle.modulator.proofs.due.due_now.Tie as tie
-use Rattle.modulator.proofs.due.due_now.Reads as reads
-use Rattle.modulator.proofs.due.due_now.Lts as lts
-use Rattle.dsp_types.proofs.unsigned.Reads as unsigned-reads
-use Rattle.modulator.proofs.due.due_at.Reads as due-at-reads
-use Rattle.modulator.proofs.due.input_refusal.Reads as input-refusal-reads
 
 counter-fits : (c : tie.After-input-refusal) → SFits w64 (c .before .before .before .args .counter .0)
 counter-fits c = search needs

@@ -9,10 +9,6 @@ use Rattle.modulator.proofs.Places.{refused-bits}
 use borrow.Author.Needs.{needs}
 use Rattle.modulator.proofs.due.input_refusal.Statement.{statement}
 use Rattle.modulator.proofs.due.input_refusal.Tie as tie
-use Rattle.modulator.proofs.due.input_refusal.Reads as reads
-use Rattle.modulator.proofs.due.input_refusal.Lts as lts
-use Rattle.modulator.proofs.due.bits_refusal.Reads as bits-refusal-reads
-use Rattle.modulator.proofs.due.is_out_of_count.Reads as is-out-of-count-reads
 
 counts : (c : tie.After-is-out-of-count) → c .is-out-of-count .result ≡ outOfCount (c .before .before .args .counter)
 counts c = rw (toZ-ofZ w64 _ (c .before .before .fits .counter)) at (c .is-out-of-count .ensures)

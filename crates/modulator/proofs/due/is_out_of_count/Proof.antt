@@ -4,8 +4,6 @@ use mir.ValLaws.{toZ-ofZ}
 use Rattle.modulator.proofs.Places.{out-of-count}
 use Rattle.modulator.proofs.due.is_out_of_count.Statement.{statement}
 use Rattle.modulator.proofs.due.is_out_of_count.Tie as tie
-use Rattle.modulator.proofs.due.is_out_of_count.Reads as reads
-use Rattle.modulator.proofs.due.is_out_of_count.Lts as lts
 
 returns : tie.Need-returns
 returns c = rw (toZ-ofZ w64 _ (c .fits .counter)) (out-of-count (c .args .counter))

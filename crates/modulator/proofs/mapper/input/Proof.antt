@@ -3,9 +3,6 @@ use Rattle.modulator.specs.Dqpsk.{inputOf}
 use borrow.Author.Needs.{needs}
 use Rattle.modulator.proofs.mapper.input.Statement.{statement}
 use Rattle.modulator.proofs.mapper.input.Tie as tie
-use Rattle.modulator.proofs.mapper.input.Reads as reads
-use Rattle.modulator.proofs.mapper.input.Lts as lts
-use Rattle.modulator.proofs.mapper.point.Reads as point-reads
 
 enum-told : tie.Need-enum-told
 enum-told c = search needs

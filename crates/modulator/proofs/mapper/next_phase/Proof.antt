@@ -4,9 +4,6 @@ use Rattle.modulator.proofs.Phases.{turn-small, next-phase}
 use borrow.Author.Needs.{needs}
 use Rattle.modulator.proofs.mapper.next_phase.Statement.{statement}
 use Rattle.modulator.proofs.mapper.next_phase.Tie as tie
-use Rattle.modulator.proofs.mapper.next_phase.Reads as reads
-use Rattle.modulator.proofs.mapper.next_phase.Lts as lts
-use Rattle.modulator.proofs.mapper.turn.Reads as turn-reads
 
 turn-requires : tie.Need-turn-requires
 turn-requires c κs = search needs

@@ -3,9 +3,6 @@ use Rattle.modulator.specs.Dqpsk.{phaseAfter}
 use borrow.Author.Needs.{needs}
 use Rattle.modulator.proofs.mapper.phase_after.Statement.{statement}
 use Rattle.modulator.proofs.mapper.phase_after.Tie as tie
-use Rattle.modulator.proofs.mapper.phase_after.Reads as reads
-use Rattle.modulator.proofs.mapper.phase_after.Lts as lts
-use Rattle.modulator.proofs.mapper.next_phase.Reads as next-phase-reads
 
 enum-known-due : tie.Need-enum-known-due
 enum-known-due c = search needs

@@ -4,8 +4,6 @@ use Rattle.modulator.specs.Dqpsk.{pointOf, pointsRe, pointsIm}
 use borrow.Author.Needs.{needs}
 use Rattle.modulator.proofs.mapper.point.Statement.{statement}
 use Rattle.modulator.proofs.mapper.point.Tie as tie
-use Rattle.modulator.proofs.mapper.point.Reads as reads
-use Rattle.modulator.proofs.mapper.point.Lts as lts
 
 cast-i : tie.Need-cast-i
 cast-i c = search needs

@@ -2,8 +2,6 @@
 use Rattle.modulator.specs.Dqpsk.{turnOf}
 use Rattle.modulator.proofs.mapper.turn.Statement.{statement}
 use Rattle.modulator.proofs.mapper.turn.Tie as tie
-use Rattle.modulator.proofs.mapper.turn.Reads as reads
-use Rattle.modulator.proofs.mapper.turn.Lts as lts
 
 returns : tie.Need-returns
 unfolding turnOf

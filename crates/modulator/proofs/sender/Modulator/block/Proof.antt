@@ -15,14 +15,6 @@ use Rattle.modulator.proofs.Blocks.{no-room, none-sent, filled, ended, 
 use borrow.Author.Needs.{needs}
 use Rattle.modulator.proofs.sender.Modulator.block.Statement.{statement}
 use Rattle.modulator.proofs.sender.Modulator.block.Tie as tie
-use Rattle.modulator.proofs.sender.Modulator.block.Reads as reads
-use Rattle.modulator.proofs.sender.Modulator.block.Lts as lts
-use Rattle.dsp_types.proofs.unsigned.Reads as unsigned-reads
-use Rattle.modulator.proofs.block.end_refusal.Reads as end-refusal-reads
-use Rattle.modulator.proofs.block.least.Reads as least-reads
-use Rattle.modulator.proofs.block.left.Reads as left-reads
-use Rattle.modulator.proofs.due.input_refusal.Reads as input-refusal-reads
-use Rattle.modulator.proofs.sender.Modulator.send.Reads as send-reads
 
 room : (c : tie.After-least2) → let a = c .before .before .before .before .before .args in c .least2 .result ≡ min 256 (min (length (a .out-re .now)) (length (a .out-im .now)))
 room c = c .least2 .ensures ∙ ap (min 256) (c .before .least .ensures)

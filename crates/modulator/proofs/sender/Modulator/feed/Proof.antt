@@ -3,9 +3,6 @@ use Rattle.modulator.specs.Sender.{told, toldOf, nextLine}
 use borrow.Author.Needs.{needs}
 use Rattle.modulator.proofs.sender.Modulator.feed.Statement.{statement}
 use Rattle.modulator.proofs.sender.Modulator.feed.Tie as tie
-use Rattle.modulator.proofs.sender.Modulator.feed.Reads as reads
-use Rattle.modulator.proofs.sender.Modulator.feed.Lts as lts
-use Rattle.modulator.proofs.sender.Modulator.shape.Reads as shape-reads
 
 enum-known-due : tie.Need-enum-known-due
 enum-known-due c = search needs

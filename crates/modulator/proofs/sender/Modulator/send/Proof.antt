@@ -7,10 +7,6 @@ use Rattle.modulator.proofs.Blocks.{wrote}
 use borrow.Author.Needs.{needs}
 use Rattle.modulator.proofs.sender.Modulator.send.Statement.{statement}
 use Rattle.modulator.proofs.sender.Modulator.send.Tie as tie
-use Rattle.modulator.proofs.sender.Modulator.send.Reads as reads
-use Rattle.modulator.proofs.sender.Modulator.send.Lts as lts
-use Rattle.fir.proofs.FirComplexSym.block.Reads as block-reads
-use Rattle.modulator.proofs.block.fill.Reads as fill-reads
 
 slice-aggregate-fill : tie.Need-slice-aggregate-fill
 slice-aggregate-fill c = search needs

@@ -3,9 +3,6 @@ use Rattle.modulator.specs.Sender.{told, shapedOf}
 use borrow.Author.Needs.{needs}
 use Rattle.modulator.proofs.sender.Modulator.shape.Statement.{statement}
 use Rattle.modulator.proofs.sender.Modulator.shape.Tie as tie
-use Rattle.modulator.proofs.sender.Modulator.shape.Reads as reads
-use Rattle.modulator.proofs.sender.Modulator.shape.Lts as lts
-use Rattle.fir.proofs.FirComplexSym.sample.Reads as sample-reads
 
 sample-requires : tie.Need-sample-requires
 sample-requires c κs = search needs

@@ -1,0 +1,85 @@
+// The filter in both forms and the magnitude over whole slices, for `make bench` to time from outside.
+use dsp_types::ComplexSample;
+use fir::FirComplexSym;
+ghost use mathlib.Core.Path.{_≡_};
+ghost use Prim.Native.Nat.{_+_, _<_, _≤_, min};
+ghost use Rattle.fir.specs.Fir.{startWith, reOf, imOf};
+ghost use Rattle.bench_signal.specs.Bench.{leastOf, roomOf, filteredOf, magnitudesOf};
+
+fn least(a: usize, b: usize) -> usize
+    ensures { λ r. ⌜ r ≡ min a b ⌝ }
+{
+    if a < b { a } else { b }
+}
+
+// As many samples as four slices of these lengths have room for.
+fn room(re: usize, im: usize, out_re: usize, out_im: usize) -> usize
+    ensures { λ r. ⌜ r ≡ leastOf re im «out_re» «out_im» ⌝ }
+    ensures { λ r. ⌜ (r ≤ re) × ((r ≤ im) × ((r ≤ «out_re») × (r ≤ «out_im»))) ⌝ }
+{
+    least(least(re, im), least(out_re, out_im))
+}
+
+// The end of the piece of n samples that begins at i.
+fn piece_end(i: usize, n: usize) -> usize
+    requires { ⌜ i < n ⌝ }
+    ensures { λ r. ⌜ (i < r) × ((r ≤ n) × (r ≤ i + 256)) ⌝ }
+{
+    if n - i < 256 { n } else { i + 256 }
+}
+
+// The filter from a new line, one call a sample.
+#[no_mangle]
+pub extern "C" fn bench_filter_single(
+    re: &[f32],
+    im: &[f32],
+    out_re: &mut [f32],
+    out_im: &mut [f32],
+)
+    ensures { λ _. ⌜
+        (let xs = filteredOf (now (re .entry)) (now (im .entry)) (roomOf (now (re .entry)) (now (im .entry)) (now («out_re» .entry)) (now («out_im» .entry))) in
+        (now («out_re» .exit) ≡ startWith (reOf xs) (now («out_re» .entry)))
+        × (now («out_im» .exit) ≡ startWith (imOf xs) (now («out_im» .entry)))) ⌝ }
+{
+    let n = room(re.len(), im.len(), out_re.len(), out_im.len());
+    let mut line = FirComplexSym::new();
+    for i in 0..n {
+        let next = line.sample(ComplexSample {
+            re: re[i],
+            im: im[i],
+        });
+        out_re[i] = next.out.re;
+        out_im[i] = next.out.im;
+        line = next.line;
+    }
+}
+
+// The filter from a new line, 256 samples a call and in the last one what is left.
+#[no_mangle]
+pub extern "C" fn bench_filter_block(re: &[f32], im: &[f32], out_re: &mut [f32], out_im: &mut [f32])
+    ensures { λ _. ⌜
+        (let xs = filteredOf (now (re .entry)) (now (im .entry)) (roomOf (now (re .entry)) (now (im .entry)) (now («out_re» .entry)) (now («out_im» .entry))) in
+        (now («out_re» .exit) ≡ startWith (reOf xs) (now («out_re» .entry)))
+        × (now («out_im» .exit) ≡ startWith (imOf xs) (now («out_im» .entry)))) ⌝ }
+{
+    let n = room(re.len(), im.len(), out_re.len(), out_im.len());
+    let mut line = FirComplexSym::new();
+    let mut i = 0;
+    while i < n {
+        let end = piece_end(i, n);
+        line = line.block(&re[i..end], &im[i..end], &mut out_re[i..], &mut out_im[i..]);
+        i = end;
+    }
+}
+
+// The magnitude of each sample.
+#[no_mangle]
+pub extern "C" fn bench_magnitude(re: &[f32], im: &[f32], out: &mut [f32])
+    ensures { λ _. ⌜
+        now (out .exit) ≡ startWith (magnitudesOf (now (re .entry)) (now (im .entry)) (roomOf (now (re .entry)) (now (im .entry)) (now (out .entry)) (now (out .entry)))) (now (out .entry)) ⌝ }
+{
+    let n = room(re.len(), im.len(), out.len(), out.len());
+    for i in 0..n {
+        out[i] = magnitude::magnitude(re[i], im[i]);
+    }
+}

@@ -1,0 +1,97 @@
+-- A block that is fed sample by sample: what is left of it, fed from here, ends where all of it would. Assumes nothing.
+use mathlib.Core.Path.{_≡_, refl, sym, ap, _∙_}
+use mathlib.Core.Bool.{Bool, true, false}
+use mathlib.Core.List.{List, [], _∷_}
+use Prim.Native.Nat.{ℕ, zero, suc, _+_, _*_, _/_, _<_, _≤_}
+use native.Mathlib.Omega.{arith}
+use lib.ListN.{length, drop, getD, length-drop, drop-of-length-le}
+use lib.Seq.{drop-cons}
+use lib.IntN.{ℤ, pos, _+ℤ_}
+use lib.Ieee.{Float, nan}
+use Rattle.dsp_types.specs.declared.ComplexSample.{ComplexSample}
+use Rattle.demodulator.specs.declared.feed.Stop.the-variants.{End, Slot, Refused}
+use Rattle.demodulator.specs.Receiver.{Receiver}
+use Rattle.demodulator.specs.Calls.{valid, validCount, sampleRefusal, accept, sampleOf}
+use Rattle.demodulator.specs.Windows.{Window, acceptWindows, sampleWindows}
+use Rattle.demodulator.specs.Feed.{interleaved, handsOver, Block, fedOne, feedOf}
+use Rattle.demodulator.proofs.Doors.{accepted-goes}
+
+-- ---- the samples of a row of parts
+
+abbrev pub part : List Float → ℕ → ComplexSample
+part parts k = record { re = getD parts (2 * k) nan; im = getD parts (2 * k + 1) nan }
+
+pub next-sample : (parts : List Float) (k : ℕ) → k < length parts / 2 → interleaved (drop (2 * k) parts) ≡ part parts k ∷ interleaved (drop (2 * (k + 1)) parts)
+unfolding interleaved
+next-sample parts k h =
+    let a : suc (2 * k) ≡ 2 * k + 1 = omega arith in
+    let b : suc (2 * k + 1) ≡ 2 * (k + 1) = omega arith in
+    let two : drop (2 * k) parts ≡ getD parts (2 * k) nan ∷ getD parts (2 * k + 1) nan ∷ drop (2 * (k + 1)) parts =
+    drop-cons parts (2 * k) nan (omega arith) ∙ rw (a, drop-cons parts (2 * k + 1) nan (omega arith), b) in
+    ap interleaved two
+
+pub no-sample : (parts : List Float) (k : ℕ) → length parts / 2 ≤ k → interleaved (drop (2 * k) parts) ≡ []
+unfolding interleaved
+no-sample parts k h = short (drop (2 * k) parts) (omega (arith, length-drop (2 * k) parts))
+  where
+    short : (l : List Float) → length l ≤ 1 → interleaved l ≡ []
+    short [] h = refl
+    short (x ∷ []) h = refl
+    short (x ∷ y ∷ l) h = absurd (omega arith)
+
+-- ---- k samples were taken
+
+unfoldable pub ahead : ℕ → Block → Block
+ahead k b = record { taken = k + b .taken; stop = b .stop; receiver = b .receiver }
+
+pub none-yet : (r : Receiver) (parts : List Float) (c : ℤ) → feedOf r (interleaved parts) c ≡ ahead 0 (feedOf r (interleaved (drop (2 * 0) parts)) c)
+unfolding ahead
+none-yet r parts c = go (feedOf r (interleaved parts) c)
+  where
+    go : (b : Block) → b ≡ record { taken = 0 + b .taken; stop = b .stop; receiver = b .receiver }
+    go b = let n : 0 + b .taken ≡ b .taken = omega arith in rw n
+
+-- what a call tells, from the equation of it all
+pub tell : (all b : Block) → all ≡ b → (b .taken ≡ all .taken) × ((b .stop ≡ all .stop) × (b .receiver ≡ all .receiver))
+tell all b e = (sym (ap (λ (x : Block). x .taken) e), (sym (ap (λ (x : Block). x .stop) e), sym (ap (λ (x : Block). x .receiver) e)))
+
+module _ (all : Block) (k : ℕ) (r : Receiver) (c : ℤ) where
+  pub at-end : all ≡ ahead k (feedOf r [] c) → all ≡ record { taken = k; stop = End; receiver = r }
+  unfolding feedOf ahead
+  at-end e = let n : k + 0 ≡ k = omega arith in e ∙ rw n
+
+  module _ (x : ComplexSample) (xs : List ComplexSample) (e : all ≡ ahead k (feedOf r (x ∷ xs) c)) where
+    pub at-refused : (n : ℕ) → n ≡ sampleRefusal (validCount (r .next)) x c → (n ≡ 0 → ⊥) → all ≡ record { taken = k; stop = Refused n; receiver = r }
+    unfolding feedOf fedOne ahead
+    at-refused n f h = e ∙ ap (ahead k) (ap (λ (m : ℕ). fedOne m (handsOver (sampleWindows r x c)) r (sampleOf r x c) (feedOf (sampleOf r x c) xs (c +ℤ pos 1))) (sym f)) ∙ go n h
+      where
+        go : (m : ℕ) → (m ≡ 0 → ⊥)
+            → ahead k (fedOne m (handsOver (sampleWindows r x c)) r (sampleOf r x c) (feedOf (sampleOf r x c) xs (c +ℤ pos 1)))
+            ≡ record { taken = k; stop = Refused m; receiver = r }
+        go zero h = absurd (h refl)
+        go (suc m) h = let n : k + 0 ≡ k = omega arith in rw n
+
+    module _ (ok : sampleRefusal (validCount (r .next)) x c ≡ 0) (q : Receiver) (g : q ≡ accept (valid r) x c) (b : Bool)
+        (w : b ≡ handsOver (acceptWindows (valid r) x c)) where
+      after : sampleOf r x c ≡ q
+      unfolding sampleOf
+      after = sym (accepted-goes _ _ _ ok) ∙ sym g
+
+      windows : handsOver (sampleWindows r x c) ≡ b
+      unfolding sampleWindows
+      windows = ap handsOver (sym (accepted-goes _ _ _ ok)) ∙ sym w
+
+      one : all ≡ ahead k (fedOne 0 b r q (feedOf q xs (c +ℤ pos 1)))
+      unfolding feedOf
+      one = e ∙ rw (ok, windows, after)
+
+      pub at-slot : b ≡ true → all ≡ record { taken = k + 1; stop = Slot; receiver = q }
+      unfolding fedOne ahead
+      at-slot t = one ∙ rw t
+
+      pub at-next : b ≡ false → all ≡ ahead (k + 1) (feedOf q xs (c +ℤ pos 1))
+      unfolding fedOne ahead
+      at-next t = one ∙ rw t (ap (λ (n : ℕ). record { taken = n; stop = feedOf q xs (c +ℤ pos 1) .stop; receiver = feedOf q xs (c +ℤ pos 1) .receiver }) (counts (feedOf q xs (c +ℤ pos 1) .taken)))
+        where
+          counts : (n : ℕ) → k + suc n ≡ k + 1 + n
+          counts n = omega arith

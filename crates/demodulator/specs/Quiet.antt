@@ -1,0 +1,48 @@
+-- Samples that are only kept, between windows: for the private functions of `feed`. Definitions only.
+use mathlib.Core.Path.{_≡_}
+use mathlib.Core.Bool.{Bool, false, _||_}
+use mathlib.Core.List.{List, [], _∷_, map}
+use Prim.Native.Nat.{ℕ, _+_, _≤_, _^_}
+use lib.IntN.{ℤ}
+use lib.ListN.{take}
+use lib.Ieee.{Float}
+use Rattle.dsp_types.specs.declared.ComplexSample.{ComplexSample}
+use Rattle.dsp_types.specs.Ints.{up, dn}
+use Rattle.dsp_types.specs.Refusals.{beyond}
+use Rattle.fir.specs.Fir.{samplesOf}
+use Rattle.magnitude.specs.Magnitude.{magnitudeOf}
+use Rattle.demodulator.specs.declared.feed.Parts.{Parts}
+use Rattle.demodulator.specs.Signal.{Signal, hear}
+use Rattle.demodulator.specs.Receiver.{Clock, Receiver}
+use Rattle.demodulator.specs.Calls.{validClock}
+
+-- samples one by one, oldest first
+unfoldable pub hearAll : Signal → List ComplexSample → Signal
+hearAll s [] = s
+hearAll s (x ∷ xs) = hearAll (hear s x) xs
+
+-- they are kept, and the next counter is c
+unfoldable pub keepAll : Receiver → List ComplexSample → ℤ → Receiver
+keepAll r xs c = record { mode = r .mode; clock = r .clock; lock = r .lock; slot = r .slot; next = c; signal = hearAll (r .signal) xs }
+
+unfoldable pub magnitudesOf : List ComplexSample → List Float
+magnitudesOf = map (λ s. magnitudeOf (s .re) (s .im))
+
+unfoldable pub anyBeyond : List ComplexSample → Bool
+anyBeyond [] = false
+anyBeyond (x ∷ xs) = (beyond (x .re) || beyond (x .im)) || anyBeyond xs
+
+-- the samples of a block of parts
+abbrev pub samplesIn : Parts → List ComplexSample
+samplesIn b = samplesOf (take (b .len) (b .re)) (take (b .len) (b .im))
+
+-- the n samples from the counter c on are only kept: the stored numbers are read as they are, no sample is missing, the counters are not
+-- refused, and they are all before the ready time and near it
+pub record Quiet (k : Clock) (misses : ℕ) (next c : ℤ) (n : ℕ) : Type 0 where
+  pub clock : validClock k ≡ k
+  pub few : misses ≤ 100
+  pub follows : next ≡ c
+  pub low : dn c ≤ 0
+  pub high : up c + n ≤ 2 ^ 37
+  pub before : up c + n + dn (k .slotReadyTime) ≤ up (k .slotReadyTime) + 16
+  pub near : up (k .slotReadyTime) ≤ up c + dn (k .slotReadyTime) + 2024

@@ -1,0 +1,226 @@
+// A block of samples in one call.
+use crate::Demodulator;
+use crate::process::is_beyond;
+use crate::process::sample_refusal;
+use crate::process::valid_count;
+use crate::process::valid_time;
+use crate::sums::is_below;
+use crate::sums::is_same;
+use crate::sums::minus;
+use crate::sums::plus;
+use dsp_types::ComplexSample;
+use dsp_types::SampleCount;
+ghost use mathlib.Core.Path.{_≡_};
+ghost use mathlib.Core.Bool.{false};
+ghost use mathlib.Core.List.{_++_};
+ghost use Prim.Native.Nat.{_+_, _*_, _/_, _<_, _≤_, _^_, min};
+ghost use lib.ListN.{length, take, drop};
+ghost use lib.Signed.{ltZ};
+ghost use Rattle.dsp_types.specs.Ints.{dn};
+ghost use Rattle.demodulator.specs.Calls.{accept};
+ghost use Rattle.demodulator.specs.Windows.{acceptWindows};
+ghost use Rattle.demodulator.specs.Feed.{interleaved, handsOver, feedOf};
+ghost use Rattle.fir.specs.Fir.{samplesOf};
+ghost use Rattle.demodulator.specs.Quiet.{keepAll, magnitudesOf, anyBeyond, samplesIn, Quiet};
+ghost use Rattle.demodulator.specs.View.{viewOf};
+ghost use Rattle.demodulator.specs.Bounds.{Within, Timed, Counter};
+
+// Why no more samples were taken: there were no more, a slot was handed over, or the next one is refused.
+pub enum Stop {
+    End,
+    Slot,
+    Refused(u32),
+}
+
+pub struct Fed {
+    pub taken: usize,
+    pub stop: Stop,
+    pub receiver: Demodulator,
+}
+
+// The parts of len samples, and zeros behind them.
+struct Parts {
+    pub re: [f32; 256],
+    pub im: [f32; 256],
+    pub len: usize,
+}
+
+struct Heard {
+    pub handed: bool,
+    pub receiver: Demodulator,
+}
+
+// How many samples from this counter on are only kept: the stored numbers are read as they are, none is missing, and no
+// window closes.
+fn quiet_samples(
+    reference: i64,
+    ready: i64,
+    slot: u32,
+    misses: u32,
+    next: i64,
+    counter: i64,
+) -> usize
+    ensures { λ r. ⌜ (0 < r → Quiet (record { referenceTime = reference; slotReadyTime = ready; currentSlot = slot }) misses next counter r) ⌝ }
+{
+    let reference_stands = is_same(valid_time(reference, 549_755_813_888), reference);
+    let ready_stands = is_same(valid_time(ready, 1_099_511_627_775), ready);
+    let follows = is_same(next, counter);
+    if !(reference_stands & ready_stands & follows & (slot < 283_115_520) & (misses <= 100)) {
+        return 0;
+    }
+    if is_below(counter, 0) | is_below(137_438_950_000, counter) {
+        return 0;
+    }
+    let left = minus(plus(ready, 16), counter);
+    if is_below(left, 1) | is_below(2040, left) {
+        return 0;
+    }
+    dsp_types::unsigned(left) as usize
+}
+
+fn least(a: usize, b: usize) -> usize
+    ensures { λ r. ⌜ r ≡ min a b ⌝ }
+{
+    if a < b { a } else { b }
+}
+
+// The parts of samples from the one numbered `at` on, at most so many, up to one that is too large.
+fn parts_of(samples: &[f32], at: usize, most: usize) -> Parts
+    requires { ⌜ at ≤ length (now samples) / 2 ⌝ }
+    ensures few { λ r. ⌜ (r .len ≤ most) × (r .len ≤ 256) × (at + r .len ≤ length (now (samples .entry)) / 2) ⌝ }
+    ensures fine { λ r. ⌜ anyBeyond (samplesIn r) ≡ false ⌝ }
+    ensures same { λ r. ⌜ interleaved (drop (2 * at) (now (samples .entry))) ≡ samplesIn r ++ interleaved (drop (2 * (at + r .len)) (now (samples .entry))) ⌝ }
+    ensures count { λ r. ⌜ length (samplesIn r) ≡ r .len ⌝ }
+{
+    let room = least(least(most, 256), samples.len() / 2 - at);
+    let mut re = [0.0f32; 256];
+    let mut im = [0.0f32; 256];
+    let mut len: usize = 0;
+    while len < room {
+        let x = samples[2 * (at + len)];
+        let y = samples[2 * (at + len) + 1];
+        if is_beyond(x) | is_beyond(y) {
+            return Parts { re, im, len };
+        }
+        re[len] = x;
+        im[len] = y;
+        len = len + 1;
+    }
+    Parts { re, im, len }
+}
+
+// The magnitudes of samples, and zeros behind them.
+fn magnitudes(re: &[f32], im: &[f32]) -> [f32; 256]
+    requires { ⌜ (length (now re) ≡ length (now im)) × (length (now re) ≤ 256) ⌝ }
+    ensures { λ r. ⌜ take (length (now (re .entry))) r ≡ magnitudesOf (samplesOf (now (re .entry)) (now (im .entry))) ⌝ }
+{
+    let mut abs = [0.0f32; 256];
+    for i in 0..re.len() {
+        abs[i] = magnitude::magnitude(re[i], im[i]);
+    }
+    abs
+}
+
+impl Demodulator {
+    // Samples that are only kept: filter, magnitudes and rings, each over the whole block.
+    fn keep_all(self, parts: Parts, next: i64) -> Demodulator
+        requires { ⌜ parts .len ≤ 256 ⌝ }
+        ensures { λ r. ⌜ viewOf r ≡ keepAll (viewOf self) (samplesIn parts) next ⌝ }
+    {
+        let re = parts.re;
+        let im = parts.im;
+        let n = parts.len;
+        let mut out_re = [0.0f32; 256];
+        let mut out_im = [0.0f32; 256];
+        let line = self.matched_filter;
+        let next_line = line.block(&re[..n], &im[..n], &mut out_re, &mut out_im);
+        let abs = magnitudes(&out_re[..n], &out_im[..n]);
+        let at = self.past_index;
+        let count = SampleCount(next);
+        let mut d = self;
+        d.next_input_sample_count = count;
+        d.matched_filter = next_line;
+        history::store(&mut d.past_re, at, &out_re[..n]);
+        history::store(&mut d.past_im, at, &out_im[..n]);
+        let index = history::store(&mut d.past_abs, at, &abs[..n]);
+        d.past_index = index;
+        d
+    }
+
+    // A sample that is not refused, and whether it handed a slot over: that alone makes one wait where none did.
+    fn hear(self, input: ComplexSample, counter: i64) -> Heard
+        requires { ⌜ Timed 1 (viewOf self) × Counter counter × Within (2 ^ 37) (viewOf self .next) × (dn (viewOf self .next) ≤ 0) × (ltZ counter (viewOf self .next) ≡ false) ⌝ }
+        ensures handed { λ r. ⌜ r .handed ≡ handsOver (acceptWindows (viewOf self) input counter) ⌝ }
+        ensures receiver { λ r. ⌜ viewOf (r .receiver) ≡ accept (viewOf self) input counter ⌝ }
+    {
+        let waiting = self.demodulated_slot_available;
+        let mut before = self;
+        before.demodulated_slot_available = false;
+        let mut d = before.accept(input, counter);
+        let handed = d.demodulated_slot_available;
+        d.demodulated_slot_available = waiting | handed;
+        Heard {
+            handed,
+            receiver: d,
+        }
+    }
+
+    // Takes samples, re and im in turn, with the counters from first on: up to one that hands a slot over, or to one
+    // that is refused, which is not taken.
+    pub fn feed(self, samples: &[f32], first: SampleCount) -> Fed
+        ensures taken { λ r. ⌜ r .taken ≡ feedOf (viewOf self) (interleaved (now (samples .entry))) (first .0) .taken ⌝ }
+        ensures stop { λ r. ⌜ r .stop ≡ feedOf (viewOf self) (interleaved (now (samples .entry))) (first .0) .stop ⌝ }
+        ensures receiver { λ r. ⌜ viewOf (r .receiver) ≡ feedOf (viewOf self) (interleaved (now (samples .entry))) (first .0) .receiver ⌝ }
+    {
+        let mut d = self;
+        let mut counter = first.0;
+        let mut taken: usize = 0;
+        while taken < samples.len() / 2 {
+            let quiet = quiet_samples(
+                d.reference_time.0,
+                d.slot_ready_time.0,
+                d.current_slot.0,
+                d.slots_since_last_valid_burst,
+                d.next_input_sample_count.0,
+                counter,
+            );
+            let parts = parts_of(samples, taken, quiet);
+            let len = parts.len;
+            if 0 < len {
+                counter = plus(counter, len as i64);
+                d = d.keep_all(parts, counter);
+                taken = taken + len;
+            } else {
+                let input = ComplexSample {
+                    re: samples[2 * taken],
+                    im: samples[2 * taken + 1],
+                };
+                let next = valid_count(d.next_input_sample_count.0);
+                let refusal = sample_refusal(next, input, counter);
+                if refusal != 0 {
+                    return Fed {
+                        taken,
+                        stop: Stop::Refused(refusal),
+                        receiver: d,
+                    };
+                }
+                let heard = d.valid().hear(input, counter);
+                d = heard.receiver;
+                counter = plus(counter, 1);
+                taken = taken + 1;
+                if heard.handed {
+                    return Fed {
+                        taken,
+                        stop: Stop::Slot,
+                        receiver: d,
+                    };
+                }
+            }
+        }
+        Fed {
+            taken,
+            stop: Stop::End,
+            receiver: d,
+        }
+    }
+}
