@@ -24,6 +24,7 @@ unfoldable pub joinedIf : ℕ → Told → Sender → Block → Block
 joinedIf zero t s rest = record { outs = t .samples ++ rest .outs; refusal = rest .refusal; sender = rest .sender }
 joinedIf (suc n) t s rest = record { outs = []; refusal = suc n; sender = s }
 
+-- a refusal, whose number is not 0, ends the block
 unfoldable pub joined : Told → Sender → Block → Block
 joined t s rest = joinedIf (t .number) t s rest
 

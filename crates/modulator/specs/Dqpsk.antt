@@ -5,11 +5,11 @@ use mathlib.Core.List.{List, [], _∷_}
 use lib.ListN.{getD}
 use lib.Ieee.{Float, binary32, nan, ofBits}
 use Rattle.dsp_types.specs.declared.ComplexSample.{ComplexSample}
-use Rattle.dsp_types.specs.Samples.{zeroF, silence}
+use Rattle.dsp_types.specs.Samples.{silence}
 use Rattle.modulator.specs.declared.due.Due.{Due}
 use Rattle.modulator.specs.declared.due.Due.the-variants.{Refused, Silence, Symbol}
 
--- the phase of a symbol's two bits, modulo 8: 00 +1, 01 +3, 10 −1, 11 −3 (EN 300 392-2, clause 5.5.2.3)
+-- the phase of a symbol's two bits, modulo 8: 00 +1, 01 +3, 10 −1, 11 −3 (EN 300 392-2, clause 5.4)
 unfoldable pub turnOf : Bool → Bool → ℕ
 turnOf false false = 1
 turnOf false true = 3
@@ -27,6 +27,7 @@ pointsRe =
     ∷ ofBits binary32 0xbf80_0000 ∷ ofBits binary32 0xbf35_04f7 ∷ ofBits binary32 0x8000_0000 ∷ ofBits binary32 0x3f35_04f7
     ∷ []
 
+-- ... and their imaginary parts
 unfoldable pub pointsIm : List Float
 pointsIm =
     ofBits binary32 0 ∷ ofBits binary32 0x3f35_04f7 ∷ ofBits binary32 0x3f80_0000 ∷ ofBits binary32 0x3f35_04f7

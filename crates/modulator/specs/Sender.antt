@@ -9,7 +9,6 @@ use lib.ListN.{getD, length, take}
 use Rattle.dsp_types.specs.declared.ComplexSample.{ComplexSample}
 use Rattle.dsp_types.specs.Refusals.{accepted, badCounter, badLength, badBit, badSlot, needMoreData, outOfCount, wrongLength, notBits}
 use Rattle.dsp_types.specs.Samples.{silence, ago}
-use Rattle.dsp_types.specs.Times.{slots}
 use Rattle.fir.specs.Fir.{filterOf, lineOf}
 use Rattle.modulator.specs.declared.due.Due.{Due}
 use Rattle.modulator.specs.declared.due.Due.the-variants.{Refused, Silence, Symbol}
@@ -26,11 +25,12 @@ unfoldable pub bitsRefusal : Bool → List ℕ → ℕ
 bitsRefusal false bits = accepted
 bitsRefusal true bits = cond (wrongLength 510 bits) badLength (cond (notBits bits) badBit accepted)
 
--- the smallest of the numbers that hold, where the bits have theirs already
+-- a refusal of the bits has a smaller number than one of the slot
 unfoldable pub slotRefusal : ℕ → ℕ → ℕ
 slotRefusal slot zero = cond (ltb 283115519 slot) badSlot accepted
 slotRefusal slot (suc n) = suc n
 
+-- the smallest number that holds of a call's input
 unfoldable pub inputRefusal : ℤ → ℕ → Bool → List ℕ → ℕ
 inputRefusal counter slot hasBits bits = cond (outOfCount counter) badCounter (slotRefusal slot (bitsRefusal hasBits bits))
 
@@ -44,6 +44,7 @@ placeIn counter slot = counter +ℤ pos 16 -ℤ pos (slot * 1020)
 unfoldable pub symbolAt : List ℕ → ℕ → Due
 symbolAt bits n = Symbol (not (eqb (getD bits (2 * (n / 4)) 0) 0)) (not (eqb (getD bits (2 * (n / 4) + 1) 0) 0))
 
+-- within a slot: a symbol, where the slot has bits and one starts here
 unfoldable pub dueIn : Bool → List ℕ → ℕ → Due
 dueIn hasBits bits n = cond (hasBits && eqb (n % 4) 0) (symbolAt bits n) Silence
 
@@ -52,10 +53,12 @@ unfoldable pub dueAt : Bool → List ℕ → ℤ → Due
 dueAt hasBits bits (negsuc n) = Silence
 dueAt hasBits bits (pos n) = cond (ltb n 1020) (dueIn hasBits bits n) (Refused needMoreData)
 
+-- a refusal from the input comes before one from the state
 unfoldable pub dueIf : ℕ → Due → Due
 dueIf zero due = due
 dueIf (suc n) due = Refused (suc n)
 
+-- what is due in a call
 unfoldable pub dueOf : ℤ → ℕ → Bool → List ℕ → Due
 dueOf counter slot hasBits bits = dueIf (inputRefusal counter slot hasBits bits) (dueAt hasBits bits (placeIn counter slot))
 
@@ -70,6 +73,7 @@ pub record Told : Type 0 where
   pub number : ℕ
   pub samples : List ComplexSample
 
+-- ... for each case of the enum
 unfoldable pub told : Answer → Told
 told (answer.Sample re im) = record { number = accepted; samples = record { re = re; im = im } ∷ [] }
 told (answer.Refused n) = record { number = n; samples = [] }
@@ -78,6 +82,7 @@ told (answer.Refused n) = record { number = n; samples = [] }
 unfoldable pub shapedOf : List ComplexSample → ComplexSample → Told
 shapedOf line input = record { number = accepted; samples = filterOf (ago silence (input ∷ line)) ∷ [] }
 
+-- what a call tells
 unfoldable pub toldOf : List ComplexSample → ComplexSample → Due → Told
 toldOf line input (Refused n) = record { number = n; samples = [] }
 toldOf line input Silence = shapedOf line input
@@ -96,6 +101,7 @@ pub record Sender : Type 0 where
   pub line : List ComplexSample
   pub phase : ℕ
 
+-- the sender that a state and a phase record stand for
 unfoldable pub senderOf : Modulator → DqpskMapper → Sender
 senderOf m p = record { line = lineOf (m .filter); phase = p .phase }
 

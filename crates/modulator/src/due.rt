@@ -76,7 +76,7 @@ pub(crate) fn due_at(counter: u64, slot: u32, has_bits: bool, bits: &[u8]) -> Du
     Due::Symbol(bits[i] != 0, bits[i + 1] != 0)
 }
 
-pub fn due_now(counter: SampleCount, slot: TdmaTime, has_bits: bool, bits: &[u8]) -> Due
+pub(crate) fn due_now(counter: SampleCount, slot: TdmaTime, has_bits: bool, bits: &[u8]) -> Due
     ensures { λ r. ⌜ r ≡ dueOf (counter .0) (slot .0) «has_bits» (now (bits .entry)) ⌝ }
 {
     let refusal = input_refusal(counter.0, slot.0, has_bits, bits);

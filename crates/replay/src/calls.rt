@@ -18,6 +18,7 @@ use crate::input::Block;
 use demodulator::Mode;
 use dsp_types::ComplexSample;
 use dsp_types::SampleCount;
+use dsp_types::TdmaTime;
 
 const LARGEST_U32: u64 = 0xffff_ffff;
 
@@ -32,6 +33,9 @@ pub enum Call {
     Receiver(usize, Asked),
     // The receiver told to follow, and whom.
     Follow(usize, usize),
+    NewSender,
+    // The sample counter, the slot's number, whether it has bits, and the bits.
+    Send(SampleCount, TdmaTime, bool, Span),
     // Kind, length of the answer bytes, bits.
     Judge(u32, usize, Span),
     // The burst's letter and its blocks, joined.
@@ -70,6 +74,8 @@ enum Wanted {
 fn of_one(line: &[u8], fields: Fields) -> Call {
     if is(text(line, fields, 0), b"lnew") {
         Call::NewLine
+    } else if is(text(line, fields, 0), b"txnew") {
+        Call::NewSender
     } else {
         Call::Error
     }
@@ -159,8 +165,27 @@ fn judge(line: &mut [u8], fields: Fields) -> Call {
     }
 }
 
+// Bits that are given as `-` are none.
+fn send(line: &mut [u8], fields: Fields) -> Call {
+    let Counter::Of(counter) = read_counter(text(&*line, fields, 1)) else {
+        return Call::Error;
+    };
+    let Number::Of(number) = read_number(text(&*line, fields, 2), LARGEST_U32) else {
+        return Call::Error;
+    };
+    let slot = TdmaTime(narrow(number));
+    if is(text(&*line, fields, 3), b"-") {
+        return Call::Send(counter, slot, false, Span { from: 0, to: 0 });
+    }
+    match read_bits(line, fields, 3) {
+        Bits::At(bits) => Call::Send(counter, slot, true, bits),
+        Bits::Bad => Call::Error,
+    }
+}
+
 fn of_four(line: &mut [u8], fields: Fields) -> Call {
     match letter(text(&*line, fields, 0)) {
+        b'w' => send(line, fields),
         b'j' => judge(line, fields),
         _ => Call::Error,
     }

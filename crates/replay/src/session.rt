@@ -8,8 +8,12 @@ use crate::field::part;
 use crate::input::Block;
 use crate::output::Output;
 use dsp_types::ComplexSample;
+use dsp_types::SampleCount;
+use dsp_types::TdmaTime;
 use fir::FirComplexSym;
 use magnitude::magnitude;
+use modulator::DqpskMapper;
+use modulator::Modulator;
 use slotter::build_ndb;
 use slotter::build_sdb;
 use timing::quarter_turns;
@@ -17,6 +21,10 @@ use timing::quarter_turns;
 pub struct Session {
     // The lone filter line.
     pub filter: FirComplexSym,
+    // The sender and its phase record, once it is made.
+    pub is_sending: bool,
+    pub sender: Modulator,
+    pub phase: DqpskMapper,
 }
 
 // The session after a call, and the answers with the call's.
@@ -59,6 +67,54 @@ impl Session {
     pub fn new() -> Session {
         Session {
             filter: FirComplexSym::new(),
+            is_sending: false,
+            sender: Modulator::new(),
+            phase: DqpskMapper::new(),
+        }
+    }
+
+    fn new_sender(mut self, out: Output, block: &mut Block) -> Step {
+        self.is_sending = true;
+        self.sender = Modulator::new();
+        self.phase = DqpskMapper::new();
+        Step {
+            session: self,
+            out: out.text(block, b"ok\n"),
+        }
+    }
+
+    // One sample of the sender, as a block of one.
+    fn send(
+        mut self,
+        out: Output,
+        block: &mut Block,
+        counter: SampleCount,
+        slot: TdmaTime,
+        has_bits: bool,
+        bits: &[u8],
+    ) -> Step {
+        let mut re = [0.0f32; 1];
+        let mut im = [0.0f32; 1];
+        let old = self.sender;
+        let phase = self.phase;
+        let sent = old.block(phase, counter, slot, has_bits, bits, &mut re, &mut im);
+        let sender = sent.modulator;
+        let mapper = sent.mapper;
+        self.sender = sender;
+        self.phase = mapper;
+        if sent.refusal != 0 {
+            return Step {
+                session: self,
+                out: out.refused(block, sent.refusal),
+            };
+        }
+        let sample = ComplexSample {
+            re: re[0],
+            im: im[0],
+        };
+        Step {
+            session: self,
+            out: out.sample(block, sample),
         }
     }
 
@@ -86,6 +142,16 @@ impl Session {
         match call {
             Call::NewLine => self.new_line(out, block),
             Call::Filter(x) => self.push(out, block, x),
+            Call::NewSender => self.new_sender(out, block),
+            Call::Send(counter, slot, has_bits, bits) => {
+                if !self.is_sending {
+                    return Step {
+                        session: self,
+                        out: out.text(block, b"error\n"),
+                    };
+                }
+                self.send(out, block, counter, slot, has_bits, slice(line, bits))
+            }
             _ => Step {
                 session: self,
                 out: answer(out, block, line, call),
