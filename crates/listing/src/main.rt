@@ -1,7 +1,12 @@
 // Lists the adjustment bits of one burst: reads all of standard input, writes the listing.
+use libc::STDERR_FILENO;
 use libc::STDIN_FILENO;
 use libc::STDOUT_FILENO;
 use lister::Input;
+
+fn complain() {
+    io::write_all(STDERR_FILENO, b"listing: cannot read standard input\n");
+}
 
 fn main() {
     let mut input = Input::new();
@@ -10,7 +15,11 @@ fn main() {
     while turns > 0 {
         let mut buffer = [0u8; 4096];
         let got = libc::read(STDIN_FILENO, &mut buffer);
-        if got <= 0 {
+        if got < 0 {
+            complain();
+            return;
+        }
+        if got == 0 {
             break;
         }
         let n = io::count(got, &buffer);

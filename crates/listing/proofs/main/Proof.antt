@@ -21,6 +21,12 @@ slice-aggregate-read c = search needs
 read-requires : tie.Need-read-requires Inv-loop μ-loop
 read-requires c κs = search needs
 
+complain-requires : tie.Need-complain-requires Inv-loop μ-loop
+complain-requires c κs = search needs
+
+returns : tie.Need-returns Inv-loop μ-loop
+returns c = search needs
+
 slice-aggregate-count : tie.Need-slice-aggregate-count Inv-loop μ-loop
 slice-aggregate-count c = search needs
 
@@ -57,8 +63,8 @@ slice-aggregate-write-all c = search needs
 write-all-requires : tie.Need-write-all-requires Inv-loop μ-loop
 write-all-requires c κs = search needs
 
-returns : tie.Need-returns Inv-loop μ-loop
-returns c = search needs
+returns-2 : tie.Need-returns-2 Inv-loop μ-loop
+returns-2 c = search needs
 
 pub main-spec : {M : Type 1} → statement M
 main-spec =
@@ -70,6 +76,8 @@ main-spec =
     loop-holds
     slice-aggregate-read
     read-requires
+    complain-requires
+    returns
     slice-aggregate-count
     count-requires
     array-share-prefix-buffer
@@ -82,4 +90,4 @@ main-spec =
     array-share-prefix-bytes
     slice-aggregate-write-all
     write-all-requires
-    returns)
+    returns-2)
