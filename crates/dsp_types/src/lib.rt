@@ -13,10 +13,12 @@ pub struct ComplexSample {
 }
 
 // A number of samples, or the counter of one: 72,000 a second.
+#[repr(C)]
 pub struct SampleCount(pub i64);
 
 // A slot number: 4 slots, 18 frames, 60 multiframes and 65,536 hyperframes, so 0 to 283,115,519. Any stored
 // number counts modulo 283,115,520.
+#[repr(C)]
 pub struct TdmaTime(pub u32);
 
 // n where it is 0 or more, else −1 − n: a sign and this number give n back, and it always fits.

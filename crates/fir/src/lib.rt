@@ -28,6 +28,7 @@ pub const CHANNEL_FILTER_TAPS: [f32; 16] = [
 ];
 
 // The parts of the newest 32 samples, oldest first.
+#[repr(C)]
 pub struct FirComplexSym {
     pub re: [f32; 32],
     pub im: [f32; 32],

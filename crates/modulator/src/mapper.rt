@@ -5,6 +5,7 @@ ghost use mathlib.Core.Path.{_≡_};
 ghost use Rattle.modulator.specs.Dqpsk.{turnOf, nextPhase, pointOf, phaseAfter, inputOf};
 
 // The phase of the last symbol in eighths of a turn. Any stored number counts modulo 8.
+#[repr(C)]
 pub struct DqpskMapper {
     pub phase: u8,
 }

@@ -18,6 +18,7 @@ pub enum Answer {
     Refused(u32),
 }
 
+#[repr(C)]
 pub struct Modulator {
     // Pulse shaping filter.
     pub filter: FirComplexSym,
