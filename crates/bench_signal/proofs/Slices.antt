@@ -1,15 +1,15 @@
 -- A turn of each loop: one sample more, or a piece more, in the line and at the start of a buffer. Assumes nothing.
 use mathlib.Core.Path.{_≡_, refl, sym, ap, _∙_}
-use mathlib.Core.List.{List, [], _∷_, _++_, map, append-assoc, append-nil}
+use mathlib.Core.List.{List, [], _∷_, _++_, map, append-nil}
 use Prim.Native.Nat.{ℕ, zero, suc, _+_, _-_, _<_, _≤_, min, zero-le, suc-le-suc}
 use native.Mathlib.Omega.{arith}
-use lib.ListN.{getD, length, set, take, drop, replicate, length-append, length-map, length-take, length-drop, drop-of-length-le}
-use lib.Seq.{take-add, drop-cons, drop-drop, length-take-le, set-at, take-at, drop-at, append-snoc}
+use lib.ListN.{getD, length, set, take, drop, replicate, length-map, length-take, length-drop, drop-of-length-le}
+use lib.Seq.{take-add, drop-cons, length-take-le}
 use lib.Ieee.{Float, nan}
 use Rattle.dsp_types.specs.declared.ComplexSample.{ComplexSample}
 use Rattle.dsp_types.specs.Samples.{silence, ago}
 use Rattle.fir.specs.Fir.{filterOf, lineAfter, outsOf, samplesOf, blockOf, startWith}
-use Rattle.fir.proofs.Laws.{line-append, outs-append, length-outs, block-whole}
+use Rattle.fir.proofs.Laws.{line-append, outs-append, length-outs, block-whole, start-set, start-part}
 use Rattle.fir.proofs.Rows.{rest}
 use Rattle.magnitude.specs.Magnitude.{magnitudeOf}
 use Rattle.bench_signal.specs.Bench.{filteredOf, magnitudesOf}
@@ -35,26 +35,9 @@ piece (suc i) k [] im v w = absurd (omega arith)
 piece (suc i) k (x ∷ re) [] v w = absurd (omega arith)
 piece (suc i) k (x ∷ re) (y ∷ im) v w = piece i k re im (omega arith) (omega arith)
 
--- ---- the start of a buffer
-
 map-append : {A B : Type 0} (f : A → B) (xs ys : List A) → map f (xs ++ ys) ≡ map f xs ++ map f ys
 map-append f [] ys = refl
 map-append f (x ∷ xs) ys = ap (λ l. f x ∷ l) (map-append f xs ys)
-
--- one element more
-pub start-set : (xs out : List Float) (i : ℕ) (x : Float) → length xs ≡ i → i < length out → set (startWith xs out) i x ≡ startWith (xs ++ (x ∷ [])) out
-unfolding startWith
-start-set xs out i x e h =
-    let n : length (xs ++ (x ∷ [])) ≡ suc i = length-append xs (x ∷ []) ∙ omega arith in
-    rw (n, e, drop-cons out i nan h) (set-at xs (getD out i nan) (drop (suc i) out) x i e ∙ sym (append-snoc xs x (drop (suc i) out)))
-
--- a piece more
-pub start-part : (xs ys out : List Float) (i : ℕ) → length xs ≡ i
-    → take i (startWith xs out) ++ startWith ys (drop i (startWith xs out)) ≡ startWith (xs ++ ys) out
-unfolding startWith
-start-part xs ys out i e =
-    rw (take-at xs (drop (length xs) out) i e, drop-at xs (drop (length xs) out) i e, drop-drop (length ys) (length xs) out, length-append xs ys)
-    (sym (append-assoc xs ys (drop (length xs + length ys) out)))
 
 -- ---- the filter
 

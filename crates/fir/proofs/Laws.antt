@@ -1,15 +1,15 @@
 -- The laws of the filter that callers go by: it reads 32 samples, a line holds the newest 32, a block is its samples one by one. Assumes nothing.
 use mathlib.Core.Path.{_≡_, refl, sym, ap, _∙_}
-use mathlib.Core.List.{List, [], _∷_, _++_, reverseAux}
+use mathlib.Core.List.{List, [], _∷_, _++_, append-assoc, reverseAux}
 use Prim.Native.Nat.{ℕ, zero, suc, _+_, _-_, _*_, _<_, _≤_, min}
 use native.Mathlib.Omega.{arith}
-use lib.ListN.{getD, length, take, replicate}
-use lib.Seq.{take-all}
-use lib.Ieee.{Float}
+use lib.ListN.{getD, length, set, take, drop, replicate, length-append}
+use lib.Seq.{take-all, drop-cons, drop-drop, set-at, take-at, drop-at, append-snoc}
+use lib.Ieee.{Float, nan}
 use Rattle.dsp_types.specs.declared.ComplexSample.{ComplexSample}
 use Rattle.dsp_types.specs.Samples.{silence, ago}
 use Rattle.dsp_types.specs.Ring.{Agree, newest, newest-newer, newer-ago, newest-same, newest-at}
-use Rattle.fir.specs.Fir.{termOf, laneUpTo, laneOf, firOf, filterOf, filteredOf, LineOf, lineAfter, outsOf, samplesOf, blockOf}
+use Rattle.fir.specs.Fir.{termOf, laneUpTo, laneOf, firOf, filterOf, filteredOf, LineOf, lineAfter, outsOf, samplesOf, blockOf, startWith}
 
 -- ---- the filter reads the newest 32 and no other
 
@@ -90,3 +90,20 @@ pub block-whole : (re im outRe outIm : List Float) → length (samplesOf re im) 
     → blockOf re im outRe outIm ≡ samplesOf re im
 unfolding blockOf
 block-whole re im outRe outIm h = take-all (min 256 (min (length outRe) (length outIm))) (samplesOf re im) h
+
+-- ---- the start of a buffer
+
+-- one element more
+pub start-set : (xs out : List Float) (i : ℕ) (x : Float) → length xs ≡ i → i < length out → set (startWith xs out) i x ≡ startWith (xs ++ (x ∷ [])) out
+unfolding startWith
+start-set xs out i x e h =
+    let n : length (xs ++ (x ∷ [])) ≡ suc i = length-append xs (x ∷ []) ∙ omega arith in
+    rw (n, e, drop-cons out i nan h) (set-at xs (getD out i nan) (drop (suc i) out) x i e ∙ sym (append-snoc xs x (drop (suc i) out)))
+
+-- a piece more
+pub start-part : (xs ys out : List Float) (i : ℕ) → length xs ≡ i
+    → take i (startWith xs out) ++ startWith ys (drop i (startWith xs out)) ≡ startWith (xs ++ ys) out
+unfolding startWith
+start-part xs ys out i e =
+    rw (take-at xs (drop (length xs) out) i e, drop-at xs (drop (length xs) out) i e, drop-drop (length ys) (length xs) out, length-append xs ys)
+    (sym (append-assoc xs ys (drop (length xs + length ys) out)))

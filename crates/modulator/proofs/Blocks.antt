@@ -8,8 +8,8 @@ use native.Mathlib.Omega.{arith}
 use mathlib.Core.List.{List, [], _∷_, _++_, append-nil}
 use lib.Dec.{eqb}
 use lib.IntN.{ℤ, pos, _+ℤ_}
-use lib.ListN.{length, take}
-use lib.Seq.{take-all}
+use lib.ListN.{length, take, drop, length-append, length-map, length-drop, drop-of-length-le}
+use lib.Seq.{take-all, take-at}
 use lib.Ieee.{Float}
 use borrow.Author.Tests.{lt-ltb, le-ltb, eqb-true, eqb-false}
 use Rattle.dsp_types.specs.declared.ComplexSample.{ComplexSample}
@@ -18,11 +18,13 @@ use Rattle.dsp_types.specs.Refusals.{outOfCount}
 use Rattle.dsp_types.specs.Ring.{le-or-lt}
 use Rattle.dsp_types.specs.Samples.{silence, ago}
 use Rattle.fir.specs.Fir.{filterOf, lineAfter, outsOf, samplesOf, blockOf, startWith, reOf, imOf}
+use Rattle.fir.proofs.Laws.{line-append, outs-append, length-outs, start-part}
+use Rattle.fir.proofs.Rows.{rest}
 use Rattle.modulator.specs.declared.due.Due.{Due}
 use Rattle.modulator.specs.declared.due.Due.the-variants.{Refused, Silence, Symbol}
 use Rattle.modulator.specs.Dqpsk.{phaseAfter, inputOf}
 use Rattle.modulator.specs.Sender.{inputRefusal, placeIn, symbolAt, dueIn, dueAt, dueIf, dueOf, shapedOf, toldOf, nextLine, Sender, fedBy, tells, after}
-use Rattle.modulator.specs.Blocks.{Block, joinedIf, joined, sentBlock, dueAfter, Wrote, placeDue, inputsOf, phasesOf, fedBlock, leftOf}
+use Rattle.modulator.specs.Blocks.{Block, joinedIf, joined, sentBlock, dueAfter, partsOf, Wrote, placeDue, inputsOf, phasesOf, fedBlock, leftOf}
 use Rattle.modulator.proofs.Places.{early, late, within, slot-accepted, refused}
 
 -- it is not a refusal
@@ -185,11 +187,6 @@ unfolding inputsOf
 inputs-length due zero i p = refl
 inputs-length due (suc n) i p = ap suc (inputs-length due n (suc i) (phaseAfter p (due i)))
 
-pub outs-length : (line xs : List ComplexSample) → length (outsOf line xs) ≡ length xs
-unfolding outsOf
-outs-length line [] = refl
-outs-length line (x ∷ xs) = ap suc (outs-length (take 32 (x ∷ line)) xs)
-
 samples-parts : (xs : List ComplexSample) → samplesOf (reOf xs) (imOf xs) ≡ xs
 unfolding samplesOf
 samples-parts [] = refl
@@ -200,11 +197,147 @@ pub block-inputs : (re im outRe outIm : List Float) (xs : List ComplexSample) �
 unfolding blockOf
 block-inputs re im outRe outIm xs e f h k l = rw (e, f, samples-parts xs) (take-all (min 256 (min (length outRe) (length outIm))) xs (omega arith))
 
--- ---- blocks of no samples
+-- ---- what `piece` leaves
 
-pub no-room : (due : ℕ → Due) (room : ℕ) (s : Sender) (re im : List Float) → room ≡ 0 → Wrote (sentBlock due room 0 s) 0 0 s re re im im
-unfolding sentBlock startWith
-no-room due room s re im e = rw e (record { counted = refl; refused = refl; sent = refl; reals = refl; imaginaries = refl })
+parts-length : (xs : List ComplexSample) → length (partsOf xs) ≡ 2 * length xs
+unfolding partsOf
+parts-length [] = refl
+parts-length (x ∷ xs) = ap (λ (n : ℕ). suc (suc n)) (parts-length xs) ∙ omega arith
+
+parts-append : (xs ys : List ComplexSample) → partsOf (xs ++ ys) ≡ partsOf xs ++ partsOf ys
+unfolding partsOf
+parts-append [] ys = refl
+parts-append (x ∷ xs) ys = ap (λ (l : List Float). x .re ∷ x .im ∷ l) (parts-append xs ys)
+
+-- the outputs of a block, read back out of its buffers
+outs-read : (xs : List ComplexSample) (n : ℕ) (re im : List Float) → length xs ≡ n → samplesOf (take n (startWith (reOf xs) re)) (take n (startWith (imOf xs) im)) ≡ xs
+unfolding startWith
+outs-read xs n re im e =
+    rw (take-at (reOf xs) (drop (length (reOf xs)) re) n (length-map xs _ ∙ e), take-at (imOf xs) (drop (length (imOf xs)) im) n (length-map xs _ ∙ e)) (samples-parts xs)
+
+pub piece-wrote : (due : ℕ → Due) (n : ℕ) (s : Sender) (re im outRe outIm outRe′ outIm′ out out′ : List Float) (line : List ComplexSample) (phase : ℕ) → n ≤ 256 → n ≤ length outRe → n ≤ length outIm
+    → re ≡ reOf (inputsOf due n 0 (s .phase)) → im ≡ imOf (inputsOf due n 0 (s .phase)) → phase ≡ phasesOf due n 0 (s .phase)
+    → (line ≡ lineAfter (s .line) (blockOf re im outRe outIm))
+    × ((outRe′ ≡ startWith (reOf (outsOf (s .line) (blockOf re im outRe outIm))) outRe) × (outIm′ ≡ startWith (imOf (outsOf (s .line) (blockOf re im outRe outIm))) outIm))
+    → out′ ≡ startWith (partsOf (samplesOf (take n outRe′) (take n outIm′))) out
+    → Wrote (fedBlock due n 0 s) n 0 (record { line = line; phase = phase }) out out′
+unfolding fedBlock
+piece-wrote due n s re im outRe outIm outRe′ outIm′ out out′ line phase h k l a b p f w =
+    let xs = inputsOf due n 0 (s .phase) in
+    let m : length xs ≡ n = inputs-length due n 0 (s .phase) in
+    let e : blockOf re im outRe outIm ≡ xs = block-inputs re im outRe outIm xs a b (omega arith) (omega arith) (omega arith) in
+    let heard : line ≡ lineAfter (s .line) xs = f .0 ∙ ap (lineAfter (s .line)) e in
+    let outs = outsOf (s .line) xs in
+    let c : length outs ≡ n = length-outs (s .line) xs ∙ m in
+    let r : outRe′ ≡ startWith (reOf outs) outRe = f .1 .0 ∙ ap (λ (l : List ComplexSample). startWith (reOf (outsOf (s .line) l)) outRe) e in
+    let i : outIm′ ≡ startWith (imOf outs) outIm = f .1 .1 ∙ ap (λ (l : List ComplexSample). startWith (imOf (outsOf (s .line) l)) outIm) e in
+    record {
+      counted = sym c;
+      refused = refl;
+      sent = λ i. record { line = heard i; phase = p i };
+      written = w ∙ ap (λ (l : List ComplexSample). startWith (partsOf l) out) ((λ j. samplesOf (take n (r j)) (take n (i j))) ∙ outs-read outs n outRe outIm c);
+    }
+
+-- ---- pieces, one behind the other
+
+module _ (due other : ℕ → Due) (k : ℕ) (h : (j : ℕ) → other j ≡ due (k + j)) where
+  later-inputs : (n i p : ℕ) → inputsOf other n i p ≡ inputsOf due n (k + i) p
+  unfolding inputsOf
+  later-inputs zero i p = refl
+  later-inputs (suc n) i p =
+      let m : k + suc i ≡ suc (k + i) = omega arith in
+      rw (h i, ← m) (ap (λ (l : List ComplexSample). inputOf (phaseAfter p (due (k + i))) (due (k + i)) ∷ l) (later-inputs n (suc i) (phaseAfter p (due (k + i)))))
+
+  later-phases : (n i p : ℕ) → phasesOf other n i p ≡ phasesOf due n (k + i) p
+  unfolding phasesOf
+  later-phases zero i p = refl
+  later-phases (suc n) i p =
+      let m : k + suc i ≡ suc (k + i) = omega arith in
+      rw (h i, ← m) (later-phases n (suc i) (phaseAfter p (due (k + i))))
+
+module _ (due : ℕ → Due) where
+  inputs-append : (k n i p : ℕ) → inputsOf due (k + n) i p ≡ inputsOf due k i p ++ inputsOf due n (k + i) (phasesOf due k i p)
+  unfolding inputsOf phasesOf
+  inputs-append zero n i p =
+      let e : 0 + n ≡ n = omega arith in
+      let m : 0 + i ≡ i = omega arith in
+      rw (e, m)
+  inputs-append (suc k) n i p =
+      let e : suc k + n ≡ suc (k + n) = omega arith in
+      let m : suc k + i ≡ k + suc i = omega arith in
+      rw (e, m) (ap (λ (l : List ComplexSample). inputOf (phaseAfter p (due i)) (due i) ∷ l) (inputs-append k n (suc i) (phaseAfter p (due i))))
+
+  phases-append : (k n i p : ℕ) → phasesOf due (k + n) i p ≡ phasesOf due n (k + i) (phasesOf due k i p)
+  unfolding phasesOf
+  phases-append zero n i p =
+      let e : 0 + n ≡ n = omega arith in
+      let m : 0 + i ≡ i = omega arith in
+      rw (e, m)
+  phases-append (suc k) n i p =
+      let e : suc k + n ≡ suc (k + n) = omega arith in
+      let m : suc k + i ≡ k + suc i = omega arith in
+      rw (e, m) (phases-append k n (suc i) (phaseAfter p (due i)))
+
+module _ (due other : ℕ → Due) (k n : ℕ) (h : (j : ℕ) → other j ≡ due (k + j)) (s : Sender) where
+  abbrev then-inputs : List ComplexSample
+  then-inputs = inputsOf other n 0 (phasesOf due k 0 (s .phase))
+
+  inputs-joined : inputsOf due (k + n) 0 (s .phase) ≡ inputsOf due k 0 (s .phase) ++ then-inputs
+  inputs-joined = inputs-append due k n 0 (s .phase) ∙ ap (λ (l : List ComplexSample). inputsOf due k 0 (s .phase) ++ l) (sym (later-inputs due other k h n 0 (phasesOf due k 0 (s .phase))))
+
+  outs-joined : (r : ℕ) → fedBlock due (k + n) r s .outs ≡ fedBlock due k r s .outs ++ fedBlock other n 0 (fedBlock due k r s .sender) .outs
+  unfolding fedBlock
+  outs-joined r = ap (outsOf (s .line)) inputs-joined ∙ outs-append (s .line) (inputsOf due k 0 (s .phase)) then-inputs
+
+  sender-joined : (r : ℕ) → fedBlock due (k + n) r s .sender ≡ fedBlock other n 0 (fedBlock due k r s .sender) .sender
+  unfolding fedBlock
+  sender-joined r =
+      let line = ap (lineAfter (s .line)) inputs-joined ∙ line-append (s .line) (inputsOf due k 0 (s .phase)) then-inputs in
+      let phase = phases-append due k n 0 (s .phase) ∙ sym (later-phases due other k h n 0 (phasesOf due k 0 (s .phase))) in
+      λ i. record { line = line i; phase = phase i }
+
+  fed-refusal : (r : ℕ) → r ≡ fedBlock due (k + n) r s .refusal
+  unfolding fedBlock
+  fed-refusal r = refl
+
+  pub wrote-more : (r : ℕ) (t u : Sender) (out₀ out part : List Float) → Wrote (fedBlock due k r s) k r t out₀ out
+      → Wrote (fedBlock other n 0 t) n 0 u (take (length out - 2 * k) (drop (2 * k) out)) part
+      → Wrote (fedBlock due (k + n) r s) (k + n) r u out₀ (take (2 * k) out ++ (part ++ drop (length out - 2 * k) (drop (2 * k) out)))
+  wrote-more r t u out₀ out part a b = go (subst (λ (v : Sender). Wrote (fedBlock other n 0 v) n 0 u (take (length out - 2 * k) (drop (2 * k) out)) part) (a .sent) b)
+    where
+      one : Block
+      one = fedBlock due k r s
+
+      two : Block
+      two = fedBlock other n 0 (one .sender)
+
+      go : Wrote two n 0 u (take (length out - 2 * k) (drop (2 * k) out)) part
+          → Wrote (fedBlock due (k + n) r s) (k + n) r u out₀ (take (2 * k) out ++ (part ++ drop (length out - 2 * k) (drop (2 * k) out)))
+      go c =
+          let none : drop (length out - 2 * k) (drop (2 * k) out) ≡ [] = drop-of-length-le (drop (2 * k) out) {i = length out - 2 * k} (omega (arith, length-drop (2 * k) out)) in
+          record {
+            counted = rw (outs-joined r, length-append (one .outs) (two .outs), ← a .counted, ← c .counted);
+            refused = fed-refusal r;
+            sent = c .sent ∙ sym (sender-joined r);
+            written = rw (none, append-nil part, c .written, rest out (2 * k), a .written, outs-joined r, parts-append (one .outs) (two .outs))
+                (start-part (partsOf (one .outs)) (partsOf (two .outs)) out₀ (2 * k) (parts-length (one .outs) ∙ ap (λ (m : ℕ). 2 * m) (sym (a .counted))));
+          }
+
+-- ---- what is due later, and blocks of no samples
+
+pub due-later : (first slot : ℕ) (b : Bool) (bits : List ℕ) (k j : ℕ) → placeDue (first + k) slot b bits j ≡ placeDue first slot b bits (k + j)
+unfolding placeDue
+due-later first slot b bits k j =
+    let m : first + k + j ≡ first + (k + j) = omega arith in
+    rw m
+
+pub wrote-none : (due : ℕ → Due) (r : ℕ) (s : Sender) (out : List Float) → Wrote (fedBlock due 0 r s) 0 r s out out
+unfolding fedBlock inputsOf outsOf lineAfter phasesOf partsOf startWith
+wrote-none due r s out = record { counted = refl; refused = refl; sent = refl; written = refl }
+
+pub no-room : (due : ℕ → Due) (room : ℕ) (s : Sender) (out : List Float) → room ≡ 0 → Wrote (sentBlock due room 0 s) 0 0 s out out
+unfolding sentBlock partsOf startWith
+no-room due room s out e = rw e (record { counted = refl; refused = refl; sent = refl; written = refl })
 
 first-due : (first : ℤ) (slot : ℕ) (b : Bool) (bits : List ℕ) (r : ℕ) → r ≡ inputRefusal first slot b bits → (r ≡ 0 → ⊥) → dueAfter first slot b bits 0 ≡ Refused r
 unfolding dueAfter dueOf
@@ -212,35 +345,14 @@ first-due first slot b bits r e h =
     let f : first +ℤ pos 0 ≡ first = same (first +ℤ pos 0) first (omega (arith, sum first (pos 0))) in
     rw (f, ← e) (sym (refused r (dueAt b bits (placeIn first slot)) h))
 
-pub none-sent : (first : ℤ) (slot : ℕ) (b : Bool) (bits : List ℕ) (r room : ℕ) (s : Sender) (re im : List Float) → r ≡ inputRefusal first slot b bits → (r ≡ 0 → ⊥) → (room ≡ 0 → ⊥)
-    → Wrote (sentBlock (dueAfter first slot b bits) room 0 s) 0 r s re re im im
-unfolding startWith
-none-sent first slot b bits r zero s re im e h k = absurd (k refl)
-none-sent first slot b bits zero (suc room) s re im e h k = absurd (h refl)
-none-sent first slot b bits (suc r) (suc room) s re im e h k =
-    rw (stopped (dueAfter first slot b bits) room 0 r s (first-due first slot b bits (suc r) e h)) (record { counted = refl; refused = refl; sent = refl; reals = refl; imaginaries = refl })
-
--- ---- what `send` leaves
+pub none-sent : (first : ℤ) (slot : ℕ) (b : Bool) (bits : List ℕ) (r room : ℕ) (s : Sender) (out : List Float) → r ≡ inputRefusal first slot b bits → (r ≡ 0 → ⊥) → (room ≡ 0 → ⊥)
+    → Wrote (sentBlock (dueAfter first slot b bits) room 0 s) 0 r s out out
+unfolding partsOf startWith
+none-sent first slot b bits r zero s out e h k = absurd (k refl)
+none-sent first slot b bits zero (suc room) s out e h k = absurd (h refl)
+none-sent first slot b bits (suc r) (suc room) s out e h k =
+    rw (stopped (dueAfter first slot b bits) room 0 r s (first-due first slot b bits (suc r) e h)) (record { counted = refl; refused = refl; sent = refl; written = refl })
 
 pub count-within : (m slot : ℕ) → m < 2 ^ 37 → m + leftOf m slot ≤ 2 ^ 37
 unfolding leftOf
 count-within m slot h = omega arith
-
-pub wrote : (due : ℕ → Due) (n r : ℕ) (s : Sender) (re im outRe outIm outRe′ outIm′ : List Float) (line : List ComplexSample) (phase : ℕ) → n ≤ 256 → n ≤ length outRe → n ≤ length outIm
-    → re ≡ reOf (inputsOf due n 0 (s .phase)) → im ≡ imOf (inputsOf due n 0 (s .phase)) → phase ≡ phasesOf due n 0 (s .phase)
-    → (line ≡ lineAfter (s .line) (blockOf re im outRe outIm))
-    × ((outRe′ ≡ startWith (reOf (outsOf (s .line) (blockOf re im outRe outIm))) outRe) × (outIm′ ≡ startWith (imOf (outsOf (s .line) (blockOf re im outRe outIm))) outIm))
-    → Wrote (fedBlock due n r s) n r (record { line = line; phase = phase }) outRe outRe′ outIm outIm′
-unfolding fedBlock
-wrote due n r s re im outRe outIm outRe′ outIm′ line phase h k l a b p f =
-    let xs = inputsOf due n 0 (s .phase) in
-    let m : length xs ≡ n = inputs-length due n 0 (s .phase) in
-    let e : blockOf re im outRe outIm ≡ xs = block-inputs re im outRe outIm xs a b (omega arith) (omega arith) (omega arith) in
-    let heard : line ≡ lineAfter (s .line) xs = f .0 ∙ ap (lineAfter (s .line)) e in
-    record {
-      counted = sym (outs-length (s .line) xs ∙ m);
-      refused = refl;
-      sent = λ i. record { line = heard i; phase = p i };
-      reals = f .1 .0 ∙ ap (λ (l : List ComplexSample). startWith (reOf (outsOf (s .line) l)) outRe) e;
-      imaginaries = f .1 .1 ∙ ap (λ (l : List ComplexSample). startWith (imOf (outsOf (s .line) l)) outIm) e;
-    }

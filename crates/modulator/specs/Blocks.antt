@@ -8,7 +8,7 @@ use lib.ListN.{length}
 use lib.Ieee.{Float}
 use Rattle.dsp_types.specs.declared.ComplexSample.{ComplexSample}
 use Rattle.dsp_types.specs.Refusals.{accepted}
-use Rattle.fir.specs.Fir.{lineAfter, outsOf, startWith, reOf, imOf}
+use Rattle.fir.specs.Fir.{lineAfter, outsOf, startWith}
 use Rattle.modulator.specs.declared.due.Due.{Due}
 use Rattle.modulator.specs.Dqpsk.{phaseAfter, inputOf}
 use Rattle.modulator.specs.Sender.{placeIn, dueAt, dueOf, Told, Sender, tells, after}
@@ -37,13 +37,17 @@ sentBlock due (suc n) i s = joined (tells s (due i)) (after s (due i)) (sentBloc
 unfoldable pub dueAfter : ℤ → ℕ → Bool → List ℕ → ℕ → Due
 dueAfter first slot hasBits bits i = dueOf (first +ℤ pos i) slot hasBits bits
 
--- what a block call leaves: the block's samples at the start of both buffers, how many they are, its refusal and its sender
-pub record Wrote (b : Block) (count refusal : ℕ) (sender : Sender) (re re′ im im′ : List Float) : Type 0 where
+-- the parts of samples as radio files have them: re, im, re, im, ..
+unfoldable pub partsOf : List ComplexSample → List Float
+partsOf [] = []
+partsOf (x ∷ xs) = x .re ∷ x .im ∷ partsOf xs
+
+-- what a block call leaves: the block's samples at the start of the buffer, how many they are, its refusal and its sender
+pub record Wrote (b : Block) (count refusal : ℕ) (sender : Sender) (out out′ : List Float) : Type 0 where
   pub counted : count ≡ length (b .outs)
   pub refused : refusal ≡ b .refusal
   pub sent : sender ≡ b .sender
-  pub reals : re′ ≡ startWith (reOf (b .outs)) re
-  pub imaginaries : im′ ≡ startWith (imOf (b .outs)) im
+  pub written : out′ ≡ startWith (partsOf (b .outs)) out
 
 -- ---- samples that are not refused
 

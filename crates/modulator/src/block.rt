@@ -9,18 +9,24 @@ use dsp_types::SampleCount;
 use dsp_types::TdmaTime;
 ghost use mathlib.Core.Path.{_≡_};
 ghost use mathlib.Core.Bool.{cond};
-ghost use Prim.Native.Nat.{_+_, _≤_, _<_, _^_, min};
+ghost use Prim.Native.Nat.{_+_, _*_, _/_, _≤_, _<_, _^_, min};
 ghost use lib.Dec.{eqb};
 ghost use lib.ListN.{length, take};
-ghost use Rattle.fir.specs.Fir.{reOf, imOf};
+ghost use Rattle.fir.specs.Fir.{samplesOf, startWith, reOf, imOf};
 ghost use Rattle.modulator.specs.Sender.{Bits, senderOf};
-ghost use Rattle.modulator.specs.Blocks.{dueAfter, sentBlock, Wrote, placeDue, inputsOf, phasesOf, fedBlock, leftOf};
+ghost use Rattle.modulator.specs.Blocks.{dueAfter, sentBlock, partsOf, Wrote, placeDue, inputsOf, phasesOf, fedBlock, leftOf};
 
 pub struct Sent {
     // How many samples were written.
     pub count: usize,
     // 0, or the number by which the next sample was refused.
     pub refusal: u32,
+    pub modulator: Modulator,
+    pub mapper: DqpskMapper,
+}
+
+// The sender after a piece of a block.
+struct Piece {
     pub modulator: Modulator,
     pub mapper: DqpskMapper,
 }
@@ -85,23 +91,32 @@ fn fill(
     next
 }
 
+// Writes samples to the start of a buffer, re and im in turn.
+fn interleave(re: &[f32], im: &[f32], out: &mut [f32])
+    requires { ⌜ (length (now re) ≡ length (now im)) × (2 * length (now re) ≤ length (now out)) ⌝ }
+    ensures { λ _. ⌜ now (out .exit) ≡ startWith (partsOf (samplesOf (now (re .entry)) (now (im .entry)))) (now (out .entry)) ⌝ }
+{
+    for n in 0..re.len() {
+        out[2 * n] = re[n];
+        out[2 * n + 1] = im[n];
+    }
+}
+
 impl Modulator {
-    // Sends so many samples, none of them refused.
-    fn send(
+    // Sends at most 256 samples, none of them refused.
+    fn piece(
         self,
         mapper: DqpskMapper,
         count: usize,
-        refusal: u32,
         counter: u64,
         slot: u32,
         has_bits: bool,
         bits: &[u8],
-        out_re: &mut [f32],
-        out_im: &mut [f32],
-    ) -> Sent
-        requires { ⌜ (count ≤ 256) × (count ≤ length (now «out_re»)) × (count ≤ length (now «out_im»)) × (counter + count ≤ 2 ^ 37) × Bits «has_bits» (now bits) ⌝ }
-        ensures { λ r. ⌜ Wrote (fedBlock (placeDue counter slot «has_bits» (now (bits .entry))) count refusal (senderOf self mapper))
-            (r .count) (r .refusal) (senderOf (r .modulator) (r .mapper)) (now («out_re» .entry)) (now («out_re» .exit)) (now («out_im» .entry)) (now («out_im» .exit)) ⌝ }
+        out: &mut [f32],
+    ) -> Piece
+        requires { ⌜ (count ≤ 256) × (2 * count ≤ length (now out)) × (counter + count ≤ 2 ^ 37) × Bits «has_bits» (now bits) ⌝ }
+        ensures { λ r. ⌜ Wrote (fedBlock (placeDue counter slot «has_bits» (now (bits .entry))) count 0 (senderOf self mapper))
+            count 0 (senderOf (r .modulator) (r .mapper)) (now (out .entry)) (now (out .exit)) ⌝ }
     {
         let mut re = [0.0f32; 256];
         let mut im = [0.0f32; 256];
@@ -115,18 +130,54 @@ impl Modulator {
             has_bits,
             bits,
         );
+        let mut out_re = [0.0f32; 256];
+        let mut out_im = [0.0f32; 256];
         let line = self.filter;
-        let filter = line.block(&re[..count], &im[..count], out_re, out_im);
-        Sent {
-            count,
-            refusal,
+        let filter = line.block(&re[..count], &im[..count], &mut out_re, &mut out_im);
+        interleave(&out_re[..count], &out_im[..count], out);
+        Piece {
             modulator: Modulator { filter },
             mapper: DqpskMapper { phase },
         }
     }
 
-    // As many samples as both buffers have room for, at most 256, or up to the first that is refused. What is
-    // behind them in the buffers is left as it was.
+    // Sends so many samples, none of them refused, and tells the refusal behind them.
+    fn send(
+        self,
+        mapper: DqpskMapper,
+        count: usize,
+        refusal: u32,
+        counter: u64,
+        slot: u32,
+        has_bits: bool,
+        bits: &[u8],
+        out: &mut [f32],
+    ) -> Sent
+        requires { ⌜ (2 * count ≤ length (now out)) × (counter + count ≤ 2 ^ 37) × Bits «has_bits» (now bits) ⌝ }
+        ensures { λ r. ⌜ Wrote (fedBlock (placeDue counter slot «has_bits» (now (bits .entry))) count refusal (senderOf self mapper))
+            (r .count) (r .refusal) (senderOf (r .modulator) (r .mapper)) (now (out .entry)) (now (out .exit)) ⌝ }
+    {
+        let mut modulator = self;
+        let mut phase = mapper;
+        let mut done: usize = 0;
+        while done < count {
+            let n = least(256, count - done);
+            let at = counter + done as u64;
+            let next = modulator.piece(phase, n, at, slot, has_bits, bits, &mut out[2 * done..]);
+            modulator = next.modulator;
+            phase = next.mapper;
+            done = done + n;
+        }
+        Sent {
+            count,
+            refusal,
+            modulator,
+            mapper: phase,
+        }
+    }
+
+    // As many samples as the buffer has room for, re and im in turn, or up to the first that is refused. What is behind
+    // them in the buffer is left as it was.
     pub fn block(
         self,
         mapper: DqpskMapper,
@@ -134,16 +185,14 @@ impl Modulator {
         slot: TdmaTime,
         has_bits: bool,
         bits: &[u8],
-        out_re: &mut [f32],
-        out_im: &mut [f32],
+        out: &mut [f32],
     ) -> Sent
         ensures { λ r. ⌜
-            (let room = min 256 (min (length (now («out_re» .entry))) (length (now («out_im» .entry)))) in
-            let due = dueAfter («sample_counter» .0) (slot .0) «has_bits» (now (bits .entry)) in
-            Wrote (sentBlock due room 0 (senderOf self mapper))
-            (r .count) (r .refusal) (senderOf (r .modulator) (r .mapper)) (now («out_re» .entry)) (now («out_re» .exit)) (now («out_im» .entry)) (now («out_im» .exit))) ⌝ }
+            (let due = dueAfter («sample_counter» .0) (slot .0) «has_bits» (now (bits .entry)) in
+            Wrote (sentBlock due (length (now (out .entry)) / 2) 0 (senderOf self mapper))
+            (r .count) (r .refusal) (senderOf (r .modulator) (r .mapper)) (now (out .entry)) (now (out .exit))) ⌝ }
     {
-        let room = least(256, least(out_re.len(), out_im.len()));
+        let room = out.len() / 2;
         if room == 0 {
             return Sent {
                 count: 0,
@@ -164,29 +213,9 @@ impl Modulator {
         let counter = dsp_types::unsigned(sample_counter.0);
         let left = left(counter, slot.0);
         if room <= left {
-            return self.send(
-                mapper,
-                room,
-                0,
-                counter,
-                slot.0,
-                has_bits,
-                bits,
-                out_re,
-                out_im,
-            );
+            return self.send(mapper, room, 0, counter, slot.0, has_bits, bits, out);
         }
         let end = end_refusal(counter, left);
-        self.send(
-            mapper,
-            left,
-            end,
-            counter,
-            slot.0,
-            has_bits,
-            bits,
-            out_re,
-            out_im,
-        )
+        self.send(mapper, left, end, counter, slot.0, has_bits, bits, out)
     }
 }

@@ -1,66 +1,102 @@
--- `Modulator::send` meets its contract: what `fill` writes goes through the filter.
-use mathlib.Core.Path.{sym}
-use lib.Seq.{length-take-le}
+-- `Modulator::send` meets its contract. The loop's invariant: so many samples are sent, and stand at the start of the buffer.
+use mathlib.Core.Path.{_≡_, refl}
+use Prim.Native.Nat.{_+_, _-_, _≤_}
+use native.Mathlib.Omega.{arith}
+use lib.ListN.{length}
 use Rattle.modulator.specs.Sender.{senderOf}
-use Rattle.modulator.specs.Blocks.{placeDue}
-use Rattle.modulator.proofs.Blocks.{wrote}
+use Rattle.modulator.specs.Blocks.{Wrote, placeDue, fedBlock}
+use Rattle.modulator.proofs.Blocks.{wrote-more, wrote-none, due-later}
 use borrow.Author.Needs.{needs}
 use Rattle.modulator.proofs.sender.Modulator.send.Statement.{statement}
 use Rattle.modulator.proofs.sender.Modulator.send.Tie as tie
 
-slice-aggregate-fill : tie.Need-slice-aggregate-fill
-slice-aggregate-fill c = search needs
+abbrev Inv-loop : tie.InvT-loop
+Inv-loop count refusal counter slot has-bits bits out₀ modulator₀ phase₀ done₀ out modulator phase done =
+    (done ≤ count) × (length out ≡ length out₀)
+    × Wrote (fedBlock (placeDue counter slot has-bits bits) done refusal (senderOf modulator₀ phase₀)) done refusal (senderOf modulator phase) out₀ out
 
-slice-aggregate-fill-2 : tie.Need-slice-aggregate-fill-2
-slice-aggregate-fill-2 c = search needs
+abbrev μ-loop : tie.MeasureT-loop
+μ-loop count refusal counter slot has-bits bits out₀ modulator₀ phase₀ done₀ out modulator phase done =
+    count - done
 
-fill-requires : tie.Need-fill-requires
-fill-requires c κs = search needs
+loop-holds : tie.Need-loop-holds Inv-loop μ-loop
+loop-holds c =
+    (search needs, refl, wrote-none _ _ _ _)
 
-array-share-prefix-re : tie.Need-array-share-prefix-re
-array-share-prefix-re c = search needs
+sub-least : tie.Need-sub-least Inv-loop μ-loop
+sub-least c = search needs
 
-slice-aggregate-block : tie.Need-slice-aggregate-block
-slice-aggregate-block c =
-    sym (length-take-le _ _ (search needs))
+least-requires : tie.Need-least-requires Inv-loop μ-loop
+least-requires c κs = search needs
 
-array-share-prefix-im : tie.Need-array-share-prefix-im
-array-share-prefix-im c = search needs
+add-at : tie.Need-add-at Inv-loop μ-loop
+add-at c = search needs
 
-slice-aggregate-block-2 : tie.Need-slice-aggregate-block-2
-slice-aggregate-block-2 c =
-    sym (length-take-le _ _ (search needs))
+mul-piece : tie.Need-mul-piece Inv-loop μ-loop
+mul-piece c = search needs
 
-block-requires : tie.Need-block-requires
-block-requires c κs = search needs
+mul-piece-2 : tie.Need-mul-piece-2 Inv-loop μ-loop
+mul-piece-2 c = search needs
 
-same-length : tie.Need-same-length
+sub-piece : tie.Need-sub-piece Inv-loop μ-loop
+sub-piece c = search needs
+
+part-piece-start : tie.Need-part-piece-start Inv-loop μ-loop
+part-piece-start c = search needs
+
+part-piece-end : tie.Need-part-piece-end Inv-loop μ-loop
+part-piece-end c = search needs
+
+piece-requires : tie.Need-piece-requires Inv-loop μ-loop
+piece-requires c κs = search needs
+
+add-done : tie.Need-add-done Inv-loop μ-loop
+add-done c = search needs
+
+loop-less : tie.Need-loop-less Inv-loop μ-loop
+loop-less c = search needs
+
+loop-again : tie.Need-loop-again Inv-loop μ-loop
+loop-again c =
+    let l = c .before .before .before .before .before .before .before .before .loop in
+    let a = c .before .before .before .before .before .before .before .before .before .before .before .args in
+    let n = c .before .before .before .before .before .before .least .result in
+    let p = c .before .before .before .before .piece in (
+      search needs,
+      search needs,
+      wrote-more (placeDue (a .counter) (a .slot) (a .has-bits) (a .bits .now)) (placeDue (a .counter + l .done) (a .slot) (a .has-bits) (a .bits .now)) (l .done) n
+          (due-later (a .counter) (a .slot) (a .has-bits) (a .bits .now) (l .done)) (senderOf (a .self) (a .mapper)) (a .refusal) (senderOf (l .modulator) (l .phase)) (senderOf (p .result .modulator) (p .result .mapper))
+          (a .out .now) (l .out) (p .last .1 .1 .1 .1 .1 .1 .1 .0) (l .inv .2) (p .ensures),
+    )
+
+same-length : tie.Need-same-length Inv-loop μ-loop
 same-length c = search needs
 
-same-length-2 : tie.Need-same-length-2
-same-length-2 c = search needs
-
-returns : tie.Need-returns
-unfolding senderOf
+returns : tie.Need-returns Inv-loop μ-loop
 returns c =
-    let s = c .before .before .before .before .before .before .before .before .before .before .before .before .before .before .before .before .before .before in
-    let a = s .args in
-    let f = c .before .before .before .before .before .before .before .before .before .before .before .before .fill .ensures in
-    wrote (placeDue (a .counter) (a .slot) (a .has-bits) (a .bits .now)) (a .count) (a .refusal) (senderOf (a .self) (a .mapper)) _ _ (a .out-re .now) (a .out-im .now) _ _ _ _
-    (s .pre .0) (s .pre .1) (s .pre .2) (f .1 .0) (f .1 .1) (f .0) (c .before .before .before .before .block .ensures)
+    let l = c .before .loop in
+    let a = c .before .before .before .before .args in
+    let e : l .done ≡ a .count = omega arith in
+    rw e at (l .inv .2)
 
 pub send-spec : {M : Type 1} → statement M
 send-spec =
     tie.close
     (tie.spec
-    slice-aggregate-fill
-    slice-aggregate-fill-2
-    fill-requires
-    array-share-prefix-re
-    slice-aggregate-block
-    array-share-prefix-im
-    slice-aggregate-block-2
-    block-requires
+    Inv-loop
+    μ-loop
+    loop-holds
+    sub-least
+    least-requires
+    add-at
+    mul-piece
+    mul-piece-2
+    sub-piece
+    part-piece-start
+    part-piece-end
+    piece-requires
+    add-done
+    loop-less
+    loop-again
     same-length
-    same-length-2
     returns)
