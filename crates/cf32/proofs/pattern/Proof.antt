@@ -1,0 +1,17 @@
+-- `cf32::pattern` meets its contract: what differs from itself is NaN, and nothing else is.
+use Rattle.cf32.proofs.Parts.{not-nan, nan-pattern}
+use borrow.Author.Needs.{needs}
+use Rattle.cf32.proofs.pattern.Statement.{statement}
+use Rattle.cf32.proofs.pattern.Tie as tie
+
+float-to-bits-result : tie.Need-float-to-bits-result
+float-to-bits-result c = not-nan (c .before .args .x) (c .if1 .left)
+
+returns : tie.Need-returns
+returns c = nan-pattern (c .before .args .x) (c .if1 .taken)
+
+returns-2 : tie.Need-returns-2
+returns-2 c = search needs
+
+pub pattern-spec : {M : Type 1} → statement M
+pattern-spec = tie.close (tie.spec float-to-bits-result returns returns-2)
