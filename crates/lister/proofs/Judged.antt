@@ -23,15 +23,20 @@ pub none : (l : List ℕ) {n : ℕ} → take n l ≡ trimmed l → n ≡ 0 → r
 unfolding listing listed
 none l e z = rw (sym e, z)
 
-pub refuses : (l : List ℕ) {letter k : ℕ} (n : ℕ) (cs : List ℕ) → trimmed l ≡ letter ∷ cs → k ≡ typeOf letter → n ≡ refusalOf k cs → (n ≡ 0 → ⊥) → refusalLine n ≡ listing l
-unfolding listing listed answerOf printed refusal
-refuses l zero cs e f g z = absurd (z refl)
-refuses l (suc n) cs e f g z = rw (e, ← f, ← g)
+-- an answer, by its refusal
+pub refuses : (k n : ℕ) (cs : List ℕ) → n ≡ refusalOf k cs → (n ≡ 0 → ⊥) → refusal n ≡ answerOf k cs
+unfolding answerOf
+refuses k zero cs e z = absurd (z refl)
+refuses k (suc n) cs e z = rw (← e)
 
-pub accepts : (l : List ℕ) {letter k n : ℕ} {t : Told} (cs : List ℕ) → trimmed l ≡ letter ∷ cs → k ≡ typeOf letter → n ≡ refusalOf k cs → n ≡ 0 → t ≡ burstOf k (map bitOf cs)
-    → printed k t ≡ listing l
-unfolding listing listed answerOf
-accepts l cs e f g z h = rw (e, ← f, ← g, z, h)
+pub accepts : (k n : ℕ) (cs : List ℕ) → n ≡ refusalOf k cs → n ≡ 0 → burstOf k (map bitOf cs) ≡ answerOf k cs
+unfolding answerOf
+accepts k n cs e z = rw (← e, z)
+
+-- the listing of a letter and its characters
+pub prints : (l : List ℕ) {letter k : ℕ} {t : Told} (cs : List ℕ) → trimmed l ≡ letter ∷ cs → k ≡ typeOf letter → t ≡ answerOf k cs → printed k t ≡ listing l
+unfolding listing listed
+prints l cs e f h = rw (e, ← f, h)
 
 right-length : (n : ℕ) (cs : List ℕ) → wrongLength n cs ≡ false → length cs ≡ n
 unfolding wrongLength

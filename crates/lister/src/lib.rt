@@ -8,7 +8,7 @@ ghost use lib.IntN.{natAbs};
 ghost use lib.ListN.{length, take, drop, replicate};
 ghost use Rattle.io.specs.Counts.{Counts};
 ghost use Rattle.slotter.specs.Bursts.{told};
-ghost use Rattle.lister.specs.Listing.{decimal, signed, nameOf, characterOf, bitOf, typeOf, wanted, notCharacters, refusalOf, trimmed, notCharacter, wrongCount, burstOf, refusalLine, burstLines, printed, listing};
+ghost use Rattle.lister.specs.Listing.{decimal, signed, nameOf, characterOf, bitOf, typeOf, wanted, notCharacters, refusalOf, trimmed, notCharacter, wrongCount, burstOf, answerOf, refusalLine, burstLines, printed, listing};
 ghost use Rattle.lister.specs.Texts.{textOf, inputOf};
 
 // A text of at most 128 bytes.
@@ -244,6 +244,21 @@ fn burst_of(kind: u32, characters: &[u8]) -> Burst
     }
 }
 
+// The burst of a type, 4 sync, 1 or 2 normal, from its blocks' bits in burst order as characters 0 and 1, or their
+// refusal: 3, 4, 5 for another type, whose length is not judged.
+pub fn answer(kind: u32, characters: &[u8]) -> Burst
+    ensures { λ r. ⌜ told r ≡ answerOf kind (now (characters .entry)) ⌝ }
+{
+    let number = refusal_of(kind, characters);
+    if number != 0 {
+        return Burst {
+            answer: Answer::Refused(number),
+            bits: [0; 510],
+        };
+    }
+    burst_of(kind, characters)
+}
+
 // The length of an input without one closing newline.
 fn trimmed_length(input: &[u8]) -> usize
     ensures { λ r. ⌜ (r ≤ length (now (input .entry))) × (take r (now (input .entry)) ≡ trimmed (now (input .entry))) ⌝ }
@@ -264,12 +279,7 @@ pub fn listing(input: &[u8]) -> Text
         return refused(3);
     }
     let kind = type_of(input[0]);
-    let characters = &input[1..n];
-    let number = refusal_of(kind, characters);
-    if number != 0 {
-        return refused(number);
-    }
-    print(kind, burst_of(kind, characters))
+    print(kind, answer(kind, &input[1..n]))
 }
 
 // What is kept of an input that comes in pieces: bytes with the same listing, whatever follows.

@@ -5,7 +5,7 @@ use Prim.Native.Nat.{_-_}
 use lib.ListN.{getD, take, drop}
 use borrow.Author.Needs.{needs}
 use Rattle.lister.specs.Listing.{trimmed}
-use Rattle.lister.proofs.Judged.{letter-first, none, refuses, accepts, right-count}
+use Rattle.lister.proofs.Judged.{letter-first, none, prints}
 use Rattle.lister.proofs.listing.Statement.{statement}
 use Rattle.lister.proofs.listing.Tie as tie
 
@@ -31,43 +31,25 @@ shared-slice-read-type-of c = search needs
 type-of-requires : tie.Need-type-of-requires
 type-of-requires c κs = search needs
 
-sub-characters : tie.Need-sub-characters
-sub-characters c = search needs
+sub-answer : tie.Need-sub-answer
+sub-answer c = search needs
 
-part-characters-start : tie.Need-part-characters-start
-part-characters-start c = search needs
+part-answer-start : tie.Need-part-answer-start
+part-answer-start c = search needs
 
-part-characters-end : tie.Need-part-characters-end
-part-characters-end c = search needs
+part-answer-end : tie.Need-part-answer-end
+part-answer-end c = search needs
 
-refusal-of-requires : tie.Need-refusal-of-requires
-refusal-of-requires c κs = search needs
-
-refused-requires-2 : tie.Need-refused-requires-2
-refused-requires-2 c κs = search needs
-
-returns-2 : tie.Need-returns-2
-returns-2 c =
-    let r = c .before .before in
-    let k = r .before .before in
-    let e = k .before .before in
-    (c .refused2 .ensures .0, c .refused2 .ensures .1 ∙ refuses (e .before .before .before .args .input .now) _ _ (split e) (k .type-of .ensures) (r .refusal-of .ensures) (c .before .if2 .taken))
-
-burst-of-requires : tie.Need-burst-of-requires
-burst-of-requires c κs =
-    let r = c .before in
-    right-count (r .before .before .type-of .result) _ (sym (r .refusal-of .ensures) ∙ c .if2 .left)
+answer-requires : tie.Need-answer-requires
+answer-requires c κs = search needs
 
 print-requires : tie.Need-print-requires
 print-requires c κs = search needs
 
-returns-3 : tie.Need-returns-3
-returns-3 c =
-    let b = c .before in
-    let r = b .before .before in
-    let k = r .before .before in
-    let e = k .before .before in
-    (c .print .ensures .0, c .print .ensures .1 ∙ accepts (e .before .before .before .args .input .now) _ (split e) (k .type-of .ensures) (r .refusal-of .ensures) (b .before .if2 .left) (b .burst-of .ensures))
+returns-2 : tie.Need-returns-2
+returns-2 c =
+    let e = c .before .before .before .before .before in
+    (c .print .ensures .0, c .print .ensures .1 ∙ prints (e .before .before .before .args .input .now) _ (split e) (c .before .before .before .type-of .ensures) (c .before .answer .ensures))
 
 pub listing-spec : {M : Type 1} → statement M
 listing-spec =
@@ -78,12 +60,9 @@ listing-spec =
     returns
     shared-slice-read-type-of
     type-of-requires
-    sub-characters
-    part-characters-start
-    part-characters-end
-    refusal-of-requires
-    refused-requires-2
-    returns-2
-    burst-of-requires
+    sub-answer
+    part-answer-start
+    part-answer-end
+    answer-requires
     print-requires
-    returns-3)
+    returns-2)
