@@ -1,5 +1,4 @@
 mod Appending
-mod Decimal
 mod Sign
 mod Characters
 mod Blocks

@@ -8,7 +8,8 @@ use native.Mathlib.Omega.{arith}
 use lib.IntN.{ℤ, pos, negsuc, natAbs, _-ℤ_}
 use lib.Signed.{mag, ltZ}
 use borrow.Author.Tests.{le-ltb, ltb-true}
-use Rattle.lister.specs.Listing.{ascii, decimal, signed}
+use Rattle.text.specs.Text.{ascii, decimal}
+use Rattle.lister.specs.Listing.{signed}
 
 true-ne : true ≡ false → ⊥
 true-ne e = let z : _≡_ {A = ℕ} 0 1 = cc in omega arith

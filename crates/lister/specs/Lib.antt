@@ -1,2 +1,2 @@
 pub mod Listing
-pub mod Texts
+pub mod Inputs

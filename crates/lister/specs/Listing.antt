@@ -1,20 +1,14 @@
 -- The listing of a burst (01, "Checked figures"): from the bytes of the input to those of the output, for inputs of any length. Definitions only.
-use Prim.Native.Nat.{ℕ, zero, suc, _+_, _/_, _%_}
-use Prim.Native.Char.{code}
-use Prim.Native.String.{String}
+use Prim.Native.Nat.{ℕ, zero, suc}
 use mathlib.Core.Bool.{Bool, false, not, cond, _&&_, _||_}
 use mathlib.Core.List.{List, [], _∷_, _++_, map}
 use lib.IntN.{ℤ, pos, negsuc}
-use lib.Dec.{eqb, ltb}
+use lib.Dec.{eqb}
 use lib.ListN.{getD, take, drop}
 use lib.Seq.{slice}
 use Rattle.dsp_types.specs.Refusals.{accepted, badLength, badBit, badTraining, wrongLength}
+use Rattle.text.specs.Text.{ascii, decimal, characterOf}
 use Rattle.slotter.specs.Bursts.{Told, refusal, syncBurst, normalBurst}
-
--- a text as bytes
-unfoldable pub ascii : String → List ℕ
-ascii String.[] = []
-ascii (String._∷_ c s) = code c ∷ ascii s
 
 -- ---- the input
 
@@ -72,15 +66,6 @@ answerOf type characters = pick (refusalOf type characters)
 
 -- ---- the output
 
--- the character of a digit
-unfoldable pub digit : ℕ → ℕ
-digit n = 48 + n
-
--- a number in decimal, of at most k digits
-unfoldable pub decimal : ℕ → ℕ → List ℕ
-decimal zero n = []
-decimal (suc k) n = cond (ltb n 10) (digit n ∷ []) (decimal k (n / 10) ++ (digit (n % 10) ∷ []))
-
 -- a whole number in decimal
 unfoldable pub signed : ℤ → List ℕ
 signed (pos n) = decimal 20 n
@@ -89,10 +74,6 @@ signed (negsuc n) = ascii "-" ++ decimal 20 (suc n)
 -- a type's name
 unfoldable pub nameOf : ℕ → List ℕ
 nameOf type = cond (eqb type 4) (ascii "sync") (cond (eqb type 1) (ascii "normal1") (ascii "normal2"))
-
--- the character of a bit
-unfoldable pub characterOf : ℕ → ℕ
-characterOf bit = cond (eqb bit 0) 48 49
 
 -- what is printed of a refusal
 unfoldable pub refusalLine : ℕ → List ℕ

@@ -1,36 +1,24 @@
 // The listing of a burst's adjustment bits: from the bytes of an input to those of the output.
 use slotter::Answer;
 use slotter::Burst;
+use text::Text;
 ghost use mathlib.Core.Path.{_≡_};
 ghost use Prim.Native.Nat.{ℕ, _+_, _≤_};
 ghost use mathlib.Core.List.{List, [], _∷_, _++_, map};
 ghost use lib.IntN.{natAbs};
 ghost use lib.ListN.{length, take, drop, replicate};
 ghost use Rattle.io.specs.Counts.{Counts};
+ghost use Rattle.text.specs.Text.{textOf, decimal, characterOf};
 ghost use Rattle.slotter.specs.Bursts.{told};
-ghost use Rattle.lister.specs.Listing.{decimal, signed, nameOf, characterOf, bitOf, typeOf, wanted, notCharacters, refusalOf, trimmed, notCharacter, wrongCount, burstOf, answerOf, refusalLine, burstLines, printed, listing};
-ghost use Rattle.lister.specs.Texts.{textOf, inputOf};
-
-// A text of at most 128 bytes.
-pub struct Text {
-    pub bytes: [u8; 128],
-    pub len: usize,
-}
+ghost use Rattle.lister.specs.Listing.{signed, nameOf, bitOf, typeOf, wanted, notCharacters, refusalOf, trimmed, notCharacter, wrongCount, burstOf, answerOf, refusalLine, burstLines, printed, listing};
+ghost use Rattle.lister.specs.Inputs.{inputOf};
 
 // The text with the bytes s behind it.
 fn append(t: Text, s: &[u8]) -> Text
     requires { ⌜ t .len + length (now s) ≤ 128 ⌝ }
     ensures { λ r. ⌜ (r .len ≡ t .len + length (now (s .entry))) × Counts (r .len) (r .bytes) × (textOf r ≡ textOf t ++ now (s .entry)) ⌝ }
 {
-    let mut bytes = t.bytes;
-    let len = t.len;
-    for i in 0..s.len() {
-        bytes[len + i] = s[i];
-    }
-    Text {
-        bytes: bytes,
-        len: len + s.len(),
-    }
+    t.append(s)
 }
 
 // The text with a number in decimal behind it.
@@ -38,9 +26,7 @@ fn append_decimal(t: Text, n: u64) -> Text
     requires { ⌜ t .len + 20 ≤ 128 ⌝ }
     ensures { λ r. ⌜ (r .len ≤ t .len + 20) × (textOf r ≡ textOf t ++ decimal 20 n) ⌝ }
 {
-    let mut digits = [0u8; 20];
-    let k = io::decimal(n, &mut digits);
-    append(t, &digits[..k])
+    t.decimal(n)
 }
 
 // A number without its sign.
@@ -76,31 +62,14 @@ fn append_name(t: Text, kind: u32) -> Text
     }
 }
 
-// The character of a bit.
-fn character_of(bit: u8) -> u8
-    ensures { λ r. ⌜ r ≡ characterOf bit ⌝ }
-{
-    if bit == 0 { b'0' } else { b'1' }
-}
-
 // The text with `lead`, a window's sum, `mid` and its adjustment bits behind it.
 fn append_window(t: Text, lead: &[u8], sum: i32, mid: &[u8], first: u8, second: u8) -> Text
     requires { ⌜ t .len + length (now lead) + length (now mid) + 23 ≤ 128 ⌝ }
     ensures { λ r. ⌜ (r .len ≤ t .len + length (now (lead .entry)) + length (now (mid .entry)) + 23) × (textOf r ≡ textOf t ++ now (lead .entry) ++ signed sum ++ now (mid .entry) ++ (characterOf first ∷ characterOf second ∷ [])) ⌝ }
 {
     let with_sum = append_signed(append(t, lead), sum);
-    let bits = [character_of(first), character_of(second)];
+    let bits = [text::character_of(first), text::character_of(second)];
     append(append(with_sum, mid), &bits)
-}
-
-// A text with nothing in it.
-fn empty() -> Text
-    ensures { λ r. ⌜ (r .len ≡ 0) × (textOf r ≡ []) ⌝ }
-{
-    Text {
-        bytes: [0; 128],
-        len: 0,
-    }
 }
 
 // What is printed of a refusal.
@@ -108,7 +77,7 @@ fn refused(number: u32) -> Text
     ensures { λ r. ⌜ Counts (r .len) (r .bytes) × (textOf r ≡ refusalLine number) ⌝ }
 {
     append(
-        append_decimal(append(empty(), b"refused="), number as u64),
+        append_decimal(append(Text::new(), b"refused="), number as u64),
         b"\n",
     )
 }
@@ -117,7 +86,7 @@ fn refused(number: u32) -> Text
 fn built(kind: u32, first: i32, last: i32, bits: [u8; 510]) -> Text
     ensures { λ r. ⌜ Counts (r .len) (r .bytes) × (textOf r ≡ burstLines kind first last bits) ⌝ }
 {
-    let named = append_name(append(empty(), b"kind="), kind);
+    let named = append_name(append(Text::new(), b"kind="), kind);
     let one = append_window(
         named,
         b"\nsum_first=",

@@ -2,7 +2,8 @@
 use native.Mathlib.Omega.{arith}
 use borrow.Author.Needs.{needs}
 use borrow.Author.Tests.{eq-eqb, ne-eqb}
-use Rattle.lister.specs.Listing.{ascii, nameOf}
+use Rattle.text.specs.Text.{ascii}
+use Rattle.lister.specs.Listing.{nameOf}
 use Rattle.lister.proofs.append_name.Statement.{statement}
 use Rattle.lister.proofs.append_name.Tie as tie
 

@@ -7,8 +7,8 @@ use lib.Signed.{ltZ}
 use borrow.Author.Needs.{needs}
 use mir.Syntax.{w32}
 use mir.ValLaws.{toZ-ofZ}
-use Rattle.lister.specs.Listing.{ascii}
-use Rattle.lister.specs.Texts.{textOf}
+use Rattle.text.specs.Text.{ascii}
+use Rattle.text.specs.Text.{textOf}
 use Rattle.lister.proofs.Sign.{below-signed, above-signed}
 use Rattle.lister.proofs.append_signed.Statement.{statement}
 use Rattle.lister.proofs.append_signed.Tie as tie

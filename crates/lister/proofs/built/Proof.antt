@@ -5,7 +5,8 @@ use lib.ListN.{length}
 use borrow.Author.Needs.{needs}
 use mir.Syntax.{w32}
 use mir.ValLaws.{toZ-ofZ}
-use Rattle.lister.specs.Listing.{ascii, burstLines}
+use Rattle.text.specs.Text.{ascii}
+use Rattle.lister.specs.Listing.{burstLines}
 use Rattle.lister.proofs.Appending.{two}
 use Rattle.lister.proofs.built.Statement.{statement}
 use Rattle.lister.proofs.built.Tie as tie
@@ -13,8 +14,8 @@ use Rattle.lister.proofs.built.Tie as tie
 long : (c : tie.Start) → length (c .args .t4) ≡ 510
 long c = search needs
 
-empty-requires : tie.Need-empty-requires
-empty-requires c κs = search needs
+new-requires : tie.Need-new-requires
+new-requires c κs = search needs
 
 slice-aggregate-append : tie.Need-slice-aggregate-append
 slice-aggregate-append c = search needs
@@ -78,7 +79,7 @@ returns c =
             w₁ .append-window .ensures .1,
             n .append-name .ensures .1,
             a .append .ensures .2,
-            e .empty .ensures .1,
+            e .new .ensures .0,
             toZ-ofZ w32 (c₀ .args .first) (c₀ .fits .first),
             toZ-ofZ w32 (c₀ .args .last) (c₀ .fits .last),
             two 12 (c₀ .args .t4) (omega arith),
@@ -90,7 +91,7 @@ pub built-spec : {M : Type 1} → statement M
 built-spec =
     tie.close
     (tie.spec
-    empty-requires
+    new-requires
     slice-aggregate-append
     append-requires
     append-name-requires

@@ -1,12 +1,13 @@
 -- `lister::refused` meets its contract: it appends the three parts in order.
 use mathlib.Core.Path.{_∙_}
 use borrow.Author.Needs.{needs}
-use Rattle.lister.specs.Listing.{ascii, refusalLine}
+use Rattle.text.specs.Text.{ascii}
+use Rattle.lister.specs.Listing.{refusalLine}
 use Rattle.lister.proofs.refused.Statement.{statement}
 use Rattle.lister.proofs.refused.Tie as tie
 
-empty-requires : tie.Need-empty-requires
-empty-requires c κs = search needs
+new-requires : tie.Need-new-requires
+new-requires c κs = search needs
 
 slice-aggregate-append : tie.Need-slice-aggregate-append
 slice-aggregate-append c = search needs
@@ -30,14 +31,14 @@ returns c =
     let a = d .before in
     let e = a .before .before in (
       c .append2 .ensures .1,
-      c .append2 .ensures .2 ∙ rw (d .append-decimal .ensures .1, a .append .ensures .2, e .empty .ensures .1),
+      c .append2 .ensures .2 ∙ rw (d .append-decimal .ensures .1, a .append .ensures .2, e .new .ensures .0),
     )
 
 pub refused-spec : {M : Type 1} → statement M
 refused-spec =
     tie.close
     (tie.spec
-    empty-requires
+    new-requires
     slice-aggregate-append
     append-requires
     append-decimal-requires

@@ -8,7 +8,7 @@ use lib.ListN.{length, drop, drop-of-length-le}
 use lib.Seq.{drop-cons}
 use borrow.Author.Needs.{needs}
 use Rattle.lister.specs.Listing.{listing}
-use Rattle.lister.specs.Texts.{inputOf}
+use Rattle.lister.specs.Inputs.{inputOf}
 use Rattle.lister.proofs.Input.feed.Statement.{statement}
 use Rattle.lister.proofs.Input.feed.Tie as tie
 

@@ -6,7 +6,7 @@ use lib.ListN.{length}
 use lib.Seq.{take-all}
 use borrow.Author.Needs.{needs}
 use Rattle.lister.specs.Listing.{listing}
-use Rattle.lister.specs.Texts.{inputOf}
+use Rattle.lister.specs.Inputs.{inputOf}
 use Rattle.lister.proofs.Input.listed.Statement.{statement}
 use Rattle.lister.proofs.Input.listed.Tie as tie
 

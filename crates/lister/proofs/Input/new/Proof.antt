@@ -1,6 +1,6 @@
 -- `lister::Input::new` meets its contract: nothing is kept yet.
 use mathlib.Core.Path.{refl}
-use Rattle.lister.specs.Texts.{inputOf}
+use Rattle.lister.specs.Inputs.{inputOf}
 use Rattle.lister.proofs.Input.new.Statement.{statement}
 use Rattle.lister.proofs.Input.new.Tie as tie
 

@@ -4,7 +4,7 @@ use mathlib.Core.Logic.{⊎-elim}
 use native.Mathlib.Omega.{arith}
 use lib.ListN.{length, getD, set, length-set}
 use borrow.Author.Needs.{needs}
-use Rattle.lister.specs.Texts.{inputOf}
+use Rattle.lister.specs.Inputs.{inputOf}
 use Rattle.lister.proofs.Pieces.{one-more, full, last-fine, last-wrong, whole}
 use Rattle.lister.proofs.Input.push.Statement.{statement}
 use Rattle.lister.proofs.Input.push.Tie as tie

@@ -1,8 +1,8 @@
--- `lister::character_of` meets its contract: its test is the definition's.
+-- `text::character_of` meets its contract: its test is the definition's.
 use borrow.Author.Tests.{eq-eqb, ne-eqb}
-use Rattle.lister.specs.Listing.{characterOf}
-use Rattle.lister.proofs.character_of.Statement.{statement}
-use Rattle.lister.proofs.character_of.Tie as tie
+use Rattle.text.specs.Text.{characterOf}
+use Rattle.text.proofs.character_of.Statement.{statement}
+use Rattle.text.proofs.character_of.Tie as tie
 
 returns : tie.Need-returns
 unfolding characterOf

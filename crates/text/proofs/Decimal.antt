@@ -1,15 +1,17 @@
 -- Decimal digits: the fewest that hold a number, last first, are the definition's.
 use mathlib.Core.Path.{_≡_, ap}
-use mathlib.Core.List.{[], _∷_}
+use mathlib.Core.Bool.{Bool, true, false, cond}
+use mathlib.Core.List.{[], _∷_, _++_}
 use Prim.Native.Nat.{ℕ, zero, suc, _-_, _*_, _/_, _%_, _^_, _≤_, _<_}
 use native.Mathlib.Nat.{pow-suc, div-lt-iff-lt-mul, le-div-iff-mul-le, mod-eq-of-lt, pow-le-pow-right}
 use native.Mathlib.Omega.{arith}
-use lib.Dec.{lit<, lit≤}
+use lib.Dec.{ltb, lit<, lit≤}
+use lib.ListN.{length, length-append}
 use borrow.Author.Tests.{lt-ltb, le-ltb}
 use mathlib.Core.Logic.{⊎-elim}
 use Rattle.dsp_types.specs.Ring.{le-or-lt}
 use Rattle.io.specs.Digits.{digits, glyph, Fewest}
-use Rattle.lister.specs.Listing.{digit, decimal}
+use Rattle.text.specs.Text.{digit, decimal}
 
 glyph-digit : (d : ℕ) → d < 10 → glyph d ≡ digit d
 unfolding digit
@@ -50,3 +52,12 @@ few k n w h = ⊎-elim (λ (l : k ≤ 20). l) (λ (g : 20 < k). absurd (many g))
 pub digits-decimal : (k n : ℕ) → Fewest 10 1 n k → n < 2 ^ 64 → (k ≤ 20) × (digits 10 k n ≡ decimal 20 n)
 digits-decimal zero n w h = absurd (omega arith)
 digits-decimal (suc k) n w h = (few (suc k) n w h, fewest 20 k n w (few (suc k) n w h))
+
+pub length-decimal : (k n : ℕ) → length (decimal k n) ≤ k
+unfolding decimal
+length-decimal zero n = omega arith
+length-decimal (suc k) n = go (ltb n 10) (length-decimal k (n / 10))
+  where
+    go : (b : Bool) → length (decimal k (n / 10)) ≤ k → length (cond b (digit n ∷ []) (decimal k (n / 10) ++ (digit (n % 10) ∷ []))) ≤ suc k
+    go true h = omega arith
+    go false h = omega (arith, length-append (decimal k (n / 10)) (digit (n % 10) ∷ []))

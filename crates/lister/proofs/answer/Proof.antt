@@ -1,0 +1,29 @@
+-- `lister::answer` meets its contract: characters are refused, or make a burst, as the definition judges them.
+use mathlib.Core.Path.{sym, _∙_}
+use Rattle.slotter.specs.Bursts.{told, refusal}
+use Rattle.lister.proofs.Judged.{refuses, accepts, right-count}
+use borrow.Author.Needs.{needs}
+use Rattle.lister.proofs.answer.Statement.{statement}
+use Rattle.lister.proofs.answer.Tie as tie
+
+refusal-of-requires : tie.Need-refusal-of-requires
+refusal-of-requires c κs = search needs
+
+returns : tie.Need-returns
+unfolding told refusal
+returns c =
+    let r = c .before in
+    refuses (r .before .before .args .kind) (r .refusal-of .result) _ (r .refusal-of .ensures) (c .if1 .taken)
+
+burst-of-requires : tie.Need-burst-of-requires
+burst-of-requires c κs =
+    let r = c .before in
+    right-count (r .before .before .args .kind) _ (sym (r .refusal-of .ensures) ∙ c .if1 .left)
+
+returns-2 : tie.Need-returns-2
+returns-2 c =
+    let r = c .before .before in
+    c .burst-of .ensures ∙ accepts (r .before .before .args .kind) (r .refusal-of .result) _ (r .refusal-of .ensures) (c .before .if1 .left)
+
+pub answer-spec : {M : Type 1} → statement M
+answer-spec = tie.close (tie.spec refusal-of-requires returns burst-of-requires returns-2)

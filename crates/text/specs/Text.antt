@@ -1,0 +1,35 @@
+-- Texts as bytes, and numbers and bits as text. Definitions only.
+use Prim.Native.Nat.{ℕ, zero, suc, _+_, _/_, _%_}
+use Prim.Native.Char.{code}
+use Prim.Native.String.{String}
+use mathlib.Core.Bool.{cond}
+use mathlib.Core.List.{List, [], _∷_, _++_}
+use lib.Dec.{eqb, ltb}
+use lib.ListN.{take}
+use Rattle.text.specs.declared.Text.{Text}
+
+-- a text as bytes
+unfoldable pub ascii : String → List ℕ
+ascii String.[] = []
+ascii (String._∷_ c s) = code c ∷ ascii s
+
+-- the character of a digit
+unfoldable pub digit : ℕ → ℕ
+digit n = 48 + n
+
+-- a number in decimal, of at most k digits
+unfoldable pub decimal : ℕ → ℕ → List ℕ
+decimal zero n = []
+decimal (suc k) n = cond (ltb n 10) (digit n ∷ []) (decimal k (n / 10) ++ (digit (n % 10) ∷ []))
+
+-- the character of a bit
+unfoldable pub characterOf : ℕ → ℕ
+characterOf bit = cond (eqb bit 0) 48 49
+
+-- the bytes of a text
+unfoldable pub textOf : Text → List ℕ
+textOf t = take (t .len) (t .bytes)
+
+-- what a text holds of bytes
+unfoldable pub cut : List ℕ → List ℕ
+cut bytes = take 1024 bytes

@@ -1,0 +1,77 @@
+// A line of text, made piece by piece: at most 1,024 bytes, what is behind them is cut off.
+ghost use mathlib.Core.Path.{_≡_};
+ghost use mathlib.Core.List.{[], _++_, map};
+ghost use Prim.Native.Nat.{_≤_, min};
+ghost use lib.ListN.{length, take};
+ghost use Rattle.text.specs.Text.{textOf, cut, decimal, characterOf};
+
+// The first len of the bytes; a larger len counts as 1,024.
+pub struct Text {
+    pub bytes: [u8; 1024],
+    pub len: usize,
+}
+
+fn least(a: usize, b: usize) -> usize
+    ensures { λ r. ⌜ r ≡ min a b ⌝ }
+{
+    if a < b { a } else { b }
+}
+
+// The character of a bit.
+pub fn character_of(bit: u8) -> u8
+    ensures { λ r. ⌜ r ≡ characterOf bit ⌝ }
+{
+    if bit == 0 { b'0' } else { b'1' }
+}
+
+impl Text {
+    pub fn new() -> Text
+        ensures { λ r. ⌜ textOf r ≡ [] ⌝ }
+        ensures { λ r. ⌜ r .len ≡ 0 ⌝ }
+    {
+        Text {
+            bytes: [0; 1024],
+            len: 0,
+        }
+    }
+
+    // With the bytes s behind it.
+    pub fn append(self, s: &[u8]) -> Text
+        ensures { λ r. ⌜ textOf r ≡ cut (textOf self ++ now (s .entry)) ⌝ }
+        ensures { λ r. ⌜ (r .len ≤ 1024) × (r .len ≡ length (textOf r)) ⌝ }
+    {
+        let mut bytes = self.bytes;
+        let len = least(self.len, 1024);
+        let count = least(s.len(), 1024 - len);
+        for i in 0..count {
+            bytes[len + i] = s[i];
+        }
+        Text {
+            bytes,
+            len: len + count,
+        }
+    }
+
+    // With a number in decimal behind it.
+    pub fn decimal(self, n: u64) -> Text
+        ensures { λ r. ⌜ textOf r ≡ cut (textOf self ++ decimal 20 n) ⌝ }
+        ensures { λ r. ⌜ (r .len ≤ 1024) × (r .len ≡ length (textOf r)) ⌝ }
+    {
+        let mut digits = [0u8; 20];
+        let k = io::decimal(n, &mut digits);
+        self.append(&digits[..k])
+    }
+
+    // With the characters of bits behind it.
+    pub fn bits(self, bits: &[u8]) -> Text
+        ensures { λ r. ⌜ textOf r ≡ cut (textOf self ++ map characterOf (now (bits .entry))) ⌝ }
+        ensures { λ r. ⌜ (r .len ≤ 1024) × (r .len ≡ length (textOf r)) ⌝ }
+    {
+        let mut characters = [0u8; 1024];
+        let count = least(bits.len(), 1024);
+        for i in 0..count {
+            characters[i] = character_of(bits[i]);
+        }
+        self.append(&characters[..count])
+    }
+}
