@@ -1,12 +1,13 @@
 -- A part of a sample as `magnitude` reads it: NaN, infinite, or a whole number of units. Assumes nothing.
 use mathlib.Core.Path.{_≡_, refl, sym, ap, _∙_, subst}
-use Prim.Native.Nat.{ℕ, _+_, _%_, _≤_, _<_}
-use native.Mathlib.Nat.{lt-irrefl, lt-of-not-le}
+use mathlib.Core.Logic.{inl, inr}
+use Prim.Native.Nat.{ℕ, _+_, _-_, _%_, _≤_, _<_, max}
+use native.Mathlib.Nat.{lt-irrefl, lt-of-not-le, eq-zero-or-pos}
 use native.Mathlib.Omega.{arith}
 use mathlib.Core.Bool.{Bool, true, false, not, _&&_, cond, true≢false}
 use lib.Dec.{T, leb}
 use borrow.Author.Tests.{le-ltb}
-use lib.Ieee.{Float, nan, inf, fin, binary32, ne, isNan, nanBits, fits, ofBits, toBits}
+use lib.Ieee.{Float, nan, inf, fin, binary32, binary64, eq, ne, isNan, nanBits, fits, ofBits, toBits}
 use lib.Ieee.Bits.{ofBits-toBits, nanBits-above, is-false}
 use lib.Ieee.Compare.{differs-from-itself}
 use lib.Ieee.Scale.{finite}
@@ -16,15 +17,25 @@ use Rattle.magnitude.proofs.Largest.{largest-lt}
 use Rattle.magnitude.proofs.Values.{Sized, sized-finite, sized-units, number-at, no-number-at}
 
 -- ---- NaN is what differs from itself
-pub nan-size : (x : Float) → ne x x ≡ true → 0x7f80_0000 ≡ sizeOf x
-unfolding sizeOf
-nan-size x e = rw (differs-from-itself x (subst T (sym e) tt))
+pub nan-no-number : (x : Float) → ne x x ≡ true → finite x ≡ false
+nan-no-number x e = rw (differs-from-itself x (subst T (sym e) tt))
 
 pub not-nan : (x : Float) → ne x x ≡ false → T (not (isNan x))
 unfolding ne isNan
 not-nan nan e = subst T e tt
 not-nan (inf s) e = tt
 not-nan (fin s m e') e = tt
+
+pub same-not-nan : (x : Float) → eq x x ≡ true → T (not (isNan x))
+unfolding eq isNan
+same-not-nan nan e = absurd (true≢false (sym e))
+same-not-nan (inf s) e = tt
+same-not-nan (fin s m e') e = tt
+
+pub not-nan-pattern : (p : ℕ) → p < 0x7ff0_0000_0000_0000 → T (not (nanBits binary64 p))
+not-nan-pattern p h =
+    let m : p % 0x8000_0000_0000_0000 ≡ p = omega arith in
+    rw (nanBits-above, m, le-ltb 0x7ff0_0000_0000_0000 p (omega arith)) tt
 
 pub size-is : (x : Float) → T (not (isNan x)) → toBits binary32 x % 0x8000_0000 ≡ sizeOf x
 unfolding sizeOf
@@ -68,15 +79,29 @@ pub two-numbers : (re im : Float) → finite re ≡ true → finite im ≡ true 
 unfolding magnitudeOf
 two-numbers re im a b = simp (a, b)
 
-pub two-sizes : (re im : Float) (a b p : ℕ) → T (fits binary32 re) → T (fits binary32 im) → a ≡ sizeOf re → b ≡ sizeOf im → a < 0x7f80_0000 → b < 0x7f80_0000
-    → p ≡ largest (square (sized a) + square (sized b)) → ofBits binary32 p ≡ magnitudeOf re im
-two-sizes re im a b p f g A B h k e =
-    let x : sizeOf re < 0x7f80_0000 = rw A at h in
-    let y : sizeOf im < 0x7f80_0000 = rw B at k in
-    rw (two-numbers re im (sized-finite re _ _ (number re f x)) (sized-finite im _ _ (number im g y)), units-size re f x, units-size im g y, e, A, B)
-
-pub not-nan-bits : (n p : ℕ) → p ≡ largest n → T (not (nanBits binary32 p))
-not-nan-bits n p e =
-    let h : p < 0x7f80_0000 = rw e (largest-lt n) in
+not-nan-bits : (p : ℕ) → p < 0x7f80_0000 → T (not (nanBits binary32 p))
+not-nan-bits p h =
     let m : p % 0x8000_0000 ≡ p = omega arith in
     rw (nanBits-above, m, le-ltb 0x7f80_0000 p (omega arith)) tt
+
+pub two-sizes : (re im : Float) (p : ℕ) → T (fits binary32 re) → T (fits binary32 im)
+    → (let n = max (sizeOf re) (sizeOf im) in (n < 0x7f80_0000 → p ≡ largest (square (sized (sizeOf re)) + square (sized (sizeOf im)))) × (0x7f80_0000 ≤ n → p ≡ 0))
+    → T (not (nanBits binary32 p)) × (ofBits binary32 p ≡ magnitudeOf re im)
+two-sizes re im p f g r = elim (eq-zero-or-pos (0x7f80_0000 - max (sizeOf re) (sizeOf im))) [
+  | inl z ↦
+      let zero : p ≡ 0 = r .1 (omega arith) in
+      (not-nan-bits p (omega arith), rw zero (sym (infinite z)))
+  | inr z ↦
+      let x : sizeOf re < 0x7f80_0000 = omega arith in
+      let y : sizeOf im < 0x7f80_0000 = omega arith in
+      let e = r .0 (omega arith) in (
+        not-nan-bits p (rw e (largest-lt (square (sized (sizeOf re)) + square (sized (sizeOf im))))),
+        rw (two-numbers re im (sized-finite re _ _ (number re f x)) (sized-finite im _ _ (number im g y)), units-size re f x, units-size im g y, e),
+      )
+]
+  where
+    infinite : 0x7f80_0000 - max (sizeOf re) (sizeOf im) ≡ 0 → magnitudeOf re im ≡ ofBits binary32 0
+    infinite z = elim (eq-zero-or-pos (0x7f80_0000 - sizeOf re)) [
+      | inl h ↦ zero-first re im (no-number re f (omega arith))
+      | inr h ↦ zero-second re im (no-number im g (omega arith))
+    ]
