@@ -23,7 +23,7 @@ use Rattle.fir.proofs.Rows.{rest}
 use Rattle.modulator.specs.declared.due.Due.{Due}
 use Rattle.modulator.specs.declared.due.Due.the-variants.{Refused, Silence, Symbol}
 use Rattle.modulator.specs.Dqpsk.{phaseAfter, inputOf}
-use Rattle.modulator.specs.Sender.{inputRefusal, placeIn, symbolAt, dueIn, dueAt, dueIf, dueOf, shapedOf, toldOf, nextLine, Sender, fedBy, tells, after}
+use Rattle.modulator.specs.Sender.{inputRefusal, placeIn, symbolAt, dueIn, dueAt, dueIf, dueOf, shapedOf, toldOf, nextLine, Told, Sender, fedBy, tells, after}
 use Rattle.modulator.specs.Blocks.{Block, joinedIf, joined, sentBlock, dueAfter, partsOf, Wrote, placeDue, inputsOf, phasesOf, fedBlock, leftOf}
 use Rattle.modulator.proofs.Places.{early, late, within, slot-accepted, refused}
 
@@ -356,3 +356,24 @@ none-sent first slot b bits (suc r) (suc room) s out e h k =
 pub count-within : (m slot : ℕ) → m < 2 ^ 37 → m + leftOf m slot ≤ 2 ^ 37
 unfolding leftOf
 count-within m slot h = omega arith
+
+-- ---- a block is no longer than its room
+
+no-longer : (m : ℕ) (t : Told) (s : Sender) (rest : Block) (n : ℕ) → length (t .samples) ≤ 1 → length (rest .outs) ≤ n → length (joinedIf m t s rest .outs) ≤ suc n
+unfolding joinedIf
+no-longer zero t s rest n h k = omega (arith, length-append (t .samples) (rest .outs))
+no-longer (suc m) t s rest n h k = omega arith
+
+one-sample : (s : Sender) (d : Due) → length (tells s d .samples) ≤ 1
+unfolding tells toldOf shapedOf
+one-sample s (Refused n) = omega arith
+one-sample s Silence = omega arith
+one-sample s (Symbol bit0 bit1) = omega arith
+
+sent-within : (due : ℕ → Due) (n i : ℕ) (s : Sender) → length (sentBlock due n i s .outs) ≤ n
+unfolding sentBlock joined
+sent-within due zero i s = omega arith
+sent-within due (suc n) i s = no-longer (tells s (due i) .number) (tells s (due i)) (after s (due i)) _ n (one-sample s (due i)) (sent-within due n (suc i) (after s (due i)))
+
+pub wrote-within : (due : ℕ → Due) (n count r : ℕ) (s t : Sender) (out out′ : List Float) → Wrote (sentBlock due n 0 s) count r t out out′ → count ≤ n
+wrote-within due n count r s t out out′ w = omega (arith, w .counted, sent-within due n 0 s)

@@ -17,6 +17,17 @@ fn least(a: usize, b: usize) -> usize
     if a < b { a } else { b }
 }
 
+// The first len bytes, or all where there are fewer.
+pub fn front(bytes: &[u8], len: usize) -> &[u8]
+    ensures { λ r. ⌜ now r ≡ take len (now (bytes .entry)) ⌝ }
+{
+    if len < bytes.len() {
+        &bytes[..len]
+    } else {
+        bytes
+    }
+}
+
 // The character of a bit.
 pub fn character_of(bit: u8) -> u8
     ensures { λ r. ⌜ r ≡ characterOf bit ⌝ }
@@ -73,5 +84,18 @@ impl Text {
             characters[i] = character_of(bits[i]);
         }
         self.append(&characters[..count])
+    }
+
+    fn length(self) -> usize
+        ensures { λ r. ⌜ (r ≤ 1024) × (r ≡ length (textOf self)) ⌝ }
+    {
+        least(self.len, 1024)
+    }
+
+    // Writes it to a file descriptor, and answers as io::write_all does.
+    pub fn print(self, fd: i32) -> bool {
+        let bytes = self.bytes;
+        let len = self.length();
+        io::write_all(fd, &bytes[..len])
     }
 }

@@ -1,0 +1,39 @@
+-- `sender::write_samples` is safe: the bytes hold what `encode` writes.
+use mathlib.Core.Path.{sym}
+use lib.Seq.{length-take-le}
+use borrow.Author.Needs.{needs}
+use Rattle.tetra_tx.proofs.sender.write_samples.Statement.{statement}
+use Rattle.tetra_tx.proofs.sender.write_samples.Tie as tie
+
+slice-aggregate-encode : tie.Need-slice-aggregate-encode
+slice-aggregate-encode c = search needs
+
+encode-requires : tie.Need-encode-requires
+encode-requires c κs = search needs
+
+mul-bytes : tie.Need-mul-bytes
+mul-bytes c = search needs
+
+array-share-prefix-bytes : tie.Need-array-share-prefix-bytes
+array-share-prefix-bytes c = search needs
+
+slice-aggregate-write-all : tie.Need-slice-aggregate-write-all
+slice-aggregate-write-all c = sym (length-take-le _ _ (search needs))
+
+write-all-requires : tie.Need-write-all-requires
+write-all-requires c κs = search needs
+
+returns : tie.Need-returns
+returns c = search needs
+
+pub write-samples-spec : {M : Type 1} → statement M
+write-samples-spec =
+    tie.close
+    (tie.spec
+    slice-aggregate-encode
+    encode-requires
+    mul-bytes
+    array-share-prefix-bytes
+    slice-aggregate-write-all
+    write-all-requires
+    returns)

@@ -1,0 +1,100 @@
+// Sends bursts: a line of standard input for each slot, raw samples (`.cf32`) to standard output.
+mod line;
+mod sender;
+
+use libc::STDERR_FILENO;
+use libc::STDIN_FILENO;
+use libc::STDOUT_FILENO;
+use line::Line;
+use sender::Sender;
+
+type Block = [u8; 65536];
+
+// The sender, and the length of the line that is not yet whole.
+struct Lines {
+    sender: Sender,
+    len: usize,
+}
+
+fn help() {
+    io::write_all(
+        STDOUT_FILENO,
+        b"usage: tetra_tx <bursts >samples.cf32
+
+Sends bursts of the TETRA downlink. Each line of the input is a slot:
+  sync BITS      366 bits, the blocks of 120, 30 and 216 bits in burst order
+  normal1 BITS   462 bits, the blocks of 216, 30 and 216; training sequence 1
+  normal2 BITS   the same with training sequence 2
+  empty          no burst
+An empty line, or one that starts with #, is passed over. A line that is none
+of these is told, and its slot is sent without a burst. A slot without a burst
+follows the last one, so that a receiver sees its end.
+
+The output is raw samples, 72,000 a second: f32 re and im in turn, lowest byte
+first.
+",
+    );
+}
+
+// Sends the slot of a line of that length.
+fn send_line(sender: Sender, line: &Line, len: usize) -> Sender {
+    sender.line(line::trimmed(text::front(line, len)))
+}
+
+// Sends the slots of the lines that end in these bytes.
+fn send_lines(lines: Lines, line: &mut Line, bytes: &[u8]) -> Lines {
+    let mut sender = lines.sender;
+    let mut len = lines.len;
+    for i in 0..bytes.len() {
+        let byte = bytes[i];
+        if byte == b'\n' {
+            sender = send_line(sender, &*line, len);
+            len = 0;
+        } else {
+            len = line::push(line, len, byte);
+        }
+    }
+    Lines { sender, len }
+}
+
+// Reads the next block. It has no bytes at the end of the input.
+fn read_block(block: &mut Block) -> usize {
+    let got = libc::read(STDIN_FILENO, block);
+    if got < 0 {
+        io::write_all(STDERR_FILENO, b"tetra_tx: the input cannot be read\n");
+    }
+    io::count(got, &*block)
+}
+
+fn send_block(lines: Lines, line: &mut Line, block: &Block, len: usize) -> Lines {
+    send_lines(lines, line, text::front(block, len))
+}
+
+// A proved loop has to end, and nothing says that an input does: it counts down from a number that no run uses up.
+fn main() {
+    if os::arg_count() > 1 {
+        help();
+        return;
+    }
+    let mut block = [0u8; 65536];
+    let mut line = [0u8; 512];
+    let new = Sender::new();
+    let mut lines = Lines {
+        sender: new,
+        len: 0,
+    };
+    let mut turns = u64::MAX;
+    while turns > 0 && lines.sender.is_open {
+        turns -= 1;
+        let n = read_block(&mut block);
+        if n == 0 {
+            break;
+        }
+        lines = send_block(lines, &mut line, &block, n);
+    }
+    let mut sender = lines.sender;
+    if lines.len > 0 {
+        sender = send_line(sender, &line, lines.len);
+    }
+    sender.silence();
+}
