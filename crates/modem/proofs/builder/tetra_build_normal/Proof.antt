@@ -1,0 +1,22 @@
+-- `builder::tetra_build_normal` meets its contract, by `lend`.
+use borrow.Author.Needs.{needs}
+use Rattle.modem.proofs.builder.tetra_build_normal.Statement.{statement}
+use Rattle.modem.proofs.builder.tetra_build_normal.Tie as tie
+
+build-ndb-requires : tie.Need-build-ndb-requires
+build-ndb-requires c κs = search needs
+
+lend-requires : tie.Need-lend-requires
+lend-requires c κs = search needs
+
+same-length : tie.Need-same-length
+same-length c = search needs
+
+returns : tie.Need-returns
+returns c =
+    let l = c .before .before in
+    let e = l .before .before .build-ndb .ensures in
+    (rw (← e) (l .lend .ensures .0), rw (← e) (l .lend .ensures .1))
+
+pub tetra-build-normal-spec : {M : Type 1} → statement M
+tetra-build-normal-spec = tie.close (tie.spec build-ndb-requires lend-requires same-length returns)

@@ -1,0 +1,22 @@
+-- `builder::tetra_build_sync` meets its contract, by `lend`.
+use borrow.Author.Needs.{needs}
+use Rattle.modem.proofs.builder.tetra_build_sync.Statement.{statement}
+use Rattle.modem.proofs.builder.tetra_build_sync.Tie as tie
+
+build-sdb-requires : tie.Need-build-sdb-requires
+build-sdb-requires c κs = search needs
+
+lend-requires : tie.Need-lend-requires
+lend-requires c κs = search needs
+
+same-length : tie.Need-same-length
+same-length c = search needs
+
+returns : tie.Need-returns
+returns c =
+    let l = c .before .before in
+    let e = l .before .before .build-sdb .ensures in
+    (rw (← e) (l .lend .ensures .0), rw (← e) (l .lend .ensures .1))
+
+pub tetra-build-sync-spec : {M : Type 1} → statement M
+tetra-build-sync-spec = tie.close (tie.spec build-sdb-requires lend-requires same-length returns)
