@@ -3,53 +3,57 @@ use mathlib.Core.Bool.{Bool, true, false}
 use Prim.Native.Nat.{ℕ, zero, suc}
 use Rattle.dsp_types.specs.Refusals.{accepted}
 use Rattle.demodulator.specs.declared.feed.Stop.{Stop}
-use Rattle.demodulator.specs.declared.feed.Stop.the-variants.{End, Slot, Refused}
+use Rattle.demodulator.specs.declared.feed.Stop.the-variants as Stop
+use Rattle.demodulator.specs.declared.take.TakeAnswer.{TakeAnswer}
+use Rattle.demodulator.specs.declared.take.TakeAnswer.the-variants as TakeAnswer
 use Rattle.demodulator.specs.Receiver.{HandedSlot}
-use Rattle.demodulator.specs.Calls.{ViewNumbers, burstView, numbersOf}
+use Rattle.demodulator.specs.Calls.{ViewNumbers, burstView, numbersOf, viewNumbers}
 use Rattle.modem.specs.declared.receiver.TetraView.{TetraView}
 use Rattle.modem.specs.declared.receiver.TetraTaken.{TetraTaken}
+use Rattle.modem.specs.declared.receiver.Told.{Told}
 
 -- 01, "The receiver": whether a block ended with a sample that handed a slot over
 abbrev pub handsSlot : Stop → Bool
-handsSlot End = false
-handsSlot Slot = true
-handsSlot (Refused n) = false
+handsSlot Stop.End = false
+handsSlot Stop.Slot = true
+handsSlot (Stop.Refused n) = false
 
 -- 01, "Refusals": the number by which the next sample is refused, or 0
 abbrev pub stopRefusal : Stop → ℕ
-stopRefusal End = accepted
-stopRefusal Slot = accepted
-stopRefusal (Refused n) = n
+stopRefusal Stop.End = accepted
+stopRefusal Stop.Slot = accepted
+stopRefusal (Stop.Refused n) = n
 
--- 01, "Slot bits and burst views": type, errors and length of a view, as C reads them
-abbrev pub toldView : TetraView → ViewNumbers
-toldView v = record { type = v .«train_type»; errors = v .«train_errs»; len = v .«burst_len» }
+-- 01, "Slot bits and burst views": a view's type, errors and length, as C reads them
+abbrev pub shown : ViewNumbers → TetraView
+shown v = record { «train_type» = v .type; «train_errs» = v .errors; «burst_len» = v .len }
 
 -- 01, "Refusals": a refusal returns its number alone, so a view's numbers are 0
-abbrev pub noView : ViewNumbers
-noView = record { type = 0; errors = 0; len = 0 }
+abbrev pub noView : TetraView
+noView = record { «train_type» = 0; «train_errs» = 0; «burst_len» = 0 }
 
--- 01, "Slot bits and burst views": what a take tells: refusal or 0, the slot's number, the views of the slot and of its halves
-pub record TakeFields : Type 0 where
-  pub refusal : ℕ
-  pub number : ℕ
-  pub full : ViewNumbers
-  pub subslot1 : ViewNumbers
-  pub subslot2 : ViewNumbers
+-- what a take tells beside the state
+unfoldable pub toldTake : TetraTaken → Told
+toldTake t = record { refusal = t .refusal; number = t .number; full = t .full; subslot1 = t .subslot1; subslot2 = t .subslot2 }
 
--- the same, as C reads it
-unfoldable pub toldTake : TetraTaken → TakeFields
-toldTake t =
-    record { refusal = t .refusal; number = t .number; full = toldView (t .full); subslot1 = toldView (t .subslot1); subslot2 = toldView (t .subslot2) }
+-- 01, "Refusals": a refusal's number alone
+unfoldable pub toldRefusal : ℕ → Told
+toldRefusal n = record { refusal = n; number = 0; full = noView; subslot1 = noView; subslot2 = noView }
 
--- 01, "Refusals", "The receiver": of the slot h that waits, or of the refusal alone
-unfoldable pub takeFields : ℕ → HandedSlot → TakeFields
-takeFields zero h =
+-- 01, "The receiver": the slot h that waits, its number and its views, or the refusal with that number
+unfoldable pub toldSlot : ℕ → HandedSlot → Told
+toldSlot zero h =
     record {
       refusal = accepted;
       number = h .time;
-      full = numbersOf (burstView 510 (h .full));
-      subslot1 = numbersOf (burstView 254 (h .subslot1));
-      subslot2 = numbersOf (burstView 254 (h .subslot2));
+      full = shown (numbersOf (burstView 510 (h .full)));
+      subslot1 = shown (numbersOf (burstView 254 (h .subslot1)));
+      subslot2 = shown (numbersOf (burstView 254 (h .subslot2)));
     }
-takeFields (suc n) h = record { refusal = suc n; number = 0; full = noView; subslot1 = noView; subslot2 = noView }
+toldSlot (suc n) h = toldRefusal (suc n)
+
+-- 01, "Slot bits and burst views", "Refusals": the numbers of each case of a take's answer
+unfoldable pub toldAnswer : TakeAnswer → Told
+toldAnswer (TakeAnswer.Slot time full first second) =
+    record { refusal = accepted; number = time .0; full = shown (viewNumbers full); subslot1 = shown (viewNumbers first); subslot2 = shown (viewNumbers second) }
+toldAnswer (TakeAnswer.Refused n) = toldRefusal n

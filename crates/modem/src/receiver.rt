@@ -12,7 +12,7 @@ ghost use Rattle.demodulator.specs.Receiver.{new};
 ghost use Rattle.demodulator.specs.Calls.{validCount, sampleRefusal, sampleOf, answerNumber, takeRefusal, viewIn, viewNumbers, taken, unless, followRefusal, followOf};
 ghost use Rattle.demodulator.specs.Feed.{interleaved, feedOf};
 ghost use Rattle.demodulator.specs.View.{modeOf, viewOf};
-ghost use Rattle.modem.specs.Receive.{handsSlot, stopRefusal, toldView, noView, toldTake, takeFields};
+ghost use Rattle.modem.specs.Receive.{handsSlot, stopRefusal, shown, noView, toldTake, toldSlot, toldAnswer};
 
 // 0 or the refusal's number, and the next state.
 #[repr(C)]
@@ -47,6 +47,15 @@ pub struct TetraTaken {
     pub subslot1: TetraView,
     pub subslot2: TetraView,
     pub receiver: Demodulator,
+}
+
+// What a take tells: the fields of its answer beside the state.
+struct Told {
+    pub refusal: u32,
+    pub number: u32,
+    pub full: TetraView,
+    pub subslot1: TetraView,
+    pub subslot2: TetraView,
 }
 
 // The mode of a number; any other than 1, 2 and 3 is Idle's.
@@ -91,7 +100,7 @@ fn stop_refusal(stop: Stop) -> u32
 }
 
 fn told_view(view: TakenView) -> TetraView
-    ensures { λ r. ⌜ toldView r ≡ viewNumbers view ⌝ }
+    ensures { λ r. ⌜ r ≡ shown (viewNumbers view) ⌝ }
 {
     TetraView {
         train_type: view.train_type,
@@ -101,12 +110,37 @@ fn told_view(view: TakenView) -> TetraView
 }
 
 fn no_view() -> TetraView
-    ensures { λ r. ⌜ toldView r ≡ noView ⌝ }
+    ensures { λ r. ⌜ r ≡ noView ⌝ }
 {
     TetraView {
         train_type: 0,
         train_errs: 0,
         burst_len: 0,
+    }
+}
+
+// A take's answer in numbers.
+fn told_answer(answer: TakeAnswer) -> Told
+    ensures { λ r. ⌜ r ≡ toldAnswer answer ⌝ }
+{
+    match answer {
+        TakeAnswer::Slot(time, full, first, second) => Told {
+            refusal: 0,
+            number: time.0,
+            full: told_view(full),
+            subslot1: told_view(first),
+            subslot2: told_view(second),
+        },
+        TakeAnswer::Refused(refusal) => {
+            let none = no_view();
+            Told {
+                refusal,
+                number: 0,
+                full: none,
+                subslot1: none,
+                subslot2: none,
+            }
+        }
     }
 }
 
@@ -166,7 +200,7 @@ pub extern "C" fn tetra_take(
     subslot1: &mut [u8],
     subslot2: &mut [u8],
 ) -> TetraTaken
-    ensures told { λ r. ⌜ toldTake r ≡ takeFields (takeRefusal (now (slot .entry)) (now (subslot1 .entry)) (now (subslot2 .entry)) (viewOf receiver .slot .available)) (viewOf receiver .slot) ⌝ }
+    ensures told { λ r. ⌜ toldTake r ≡ toldSlot (takeRefusal (now (slot .entry)) (now (subslot1 .entry)) (now (subslot2 .entry)) (viewOf receiver .slot .available)) (viewOf receiver .slot) ⌝ }
     ensures receiver { λ r. ⌜ viewOf (r .receiver) ≡ unless (takeRefusal (now (slot .entry)) (now (subslot1 .entry)) (now (subslot2 .entry)) (viewOf receiver .slot .available)) (taken (viewOf receiver)) (viewOf receiver) ⌝ }
     ensures slot { λ r. ⌜ now (slot .exit) ≡ unless (takeRefusal (now (slot .entry)) (now (subslot1 .entry)) (now (subslot2 .entry)) (viewOf receiver .slot .available)) (viewIn 510 (viewOf receiver .slot .full)) (now (slot .entry)) ⌝ }
     ensures subslot1 { λ r. ⌜ now (subslot1 .exit) ≡ unless (takeRefusal (now (slot .entry)) (now (subslot1 .entry)) (now (subslot2 .entry)) (viewOf receiver .slot .available)) (viewIn 254 (viewOf receiver .slot .subslot1)) (now (subslot1 .entry)) ⌝ }
@@ -175,23 +209,17 @@ pub extern "C" fn tetra_take(
     let taken = receiver.take_demodulated_slot(slot, subslot1, subslot2);
     let next = taken.receiver;
     let answer = taken.answer;
-    match answer {
-        TakeAnswer::Slot(time, full, first, second) => TetraTaken {
-            refusal: 0,
-            number: time.0,
-            full: told_view(full),
-            subslot1: told_view(first),
-            subslot2: told_view(second),
-            receiver: next,
-        },
-        TakeAnswer::Refused(refusal) => TetraTaken {
-            refusal,
-            number: 0,
-            full: no_view(),
-            subslot1: no_view(),
-            subslot2: no_view(),
-            receiver: next,
-        },
+    let told = told_answer(answer);
+    let full = told.full;
+    let first = told.subslot1;
+    let second = told.subslot2;
+    TetraTaken {
+        refusal: told.refusal,
+        number: told.number,
+        full,
+        subslot1: first,
+        subslot2: second,
+        receiver: next,
     }
 }
 

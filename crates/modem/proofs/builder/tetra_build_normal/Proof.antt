@@ -4,10 +4,10 @@ use Rattle.modem.proofs.builder.tetra_build_normal.Statement.{statement
 use Rattle.modem.proofs.builder.tetra_build_normal.Tie as tie
 
 build-ndb-requires : tie.Need-build-ndb-requires
-build-ndb-requires c κs = search needs
+build-ndb-requires c κs = tt
 
 lend-requires : tie.Need-lend-requires
-lend-requires c κs = search needs
+lend-requires c κs = tt
 
 same-length : tie.Need-same-length
 same-length c = search needs

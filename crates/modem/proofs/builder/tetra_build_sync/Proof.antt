@@ -4,10 +4,10 @@ use Rattle.modem.proofs.builder.tetra_build_sync.Statement.{statement}
 use Rattle.modem.proofs.builder.tetra_build_sync.Tie as tie
 
 build-sdb-requires : tie.Need-build-sdb-requires
-build-sdb-requires c κs = search needs
+build-sdb-requires c κs = tt
 
 lend-requires : tie.Need-lend-requires
-lend-requires c κs = search needs
+lend-requires c κs = tt
 
 same-length : tie.Need-same-length
 same-length c = search needs

@@ -1,31 +1,34 @@
 -- `receiver::tetra_feed` meets its contract, by `feed`.
-use mathlib.Core.Path.{_∙_}
+use mathlib.Core.Path.{ap, _∙_}
+use lib.IntN.{ℤ}
 use mir.Syntax.{w64}
-use mir.Val.{SFits}
 use mir.ValLaws.{toZ-ofZ}
-use borrow.Author.Needs.{needs}
+use Rattle.demodulator.specs.Feed.{interleaved, feedOf}
+use Rattle.demodulator.specs.View.{viewOf}
+use Rattle.modem.specs.Receive.{handsSlot, stopRefusal}
 use Rattle.modem.proofs.receiver.tetra_feed.Statement.{statement}
 use Rattle.modem.proofs.receiver.tetra_feed.Tie as tie
 
-fits : (c : tie.Start) → SFits w64 (c .args .first)
-fits c = search needs
-
 feed-requires : tie.Need-feed-requires
-feed-requires c κs = search needs
+feed-requires c κs = tt
 
 hands-slot-requires : tie.Need-hands-slot-requires
-hands-slot-requires c κs = search needs
+hands-slot-requires c κs = tt
 
 stop-refusal-requires : tie.Need-stop-refusal-requires
-stop-refusal-requires c κs = search needs
+stop-refusal-requires c κs = tt
 
 returns : tie.Need-returns
 returns c =
     let f = c .before .before .before .feed in
     let s = c .before .before .before .before .before in
-    let e = toZ-ofZ w64 (s .args .first) (fits s) in
-    let stop = rw e at (f .ensures .1 .0) in
-    (rw e at (f .ensures .0), (rw (← stop) (c .before .hands-slot .ensures), (rw (← stop) (c .stop-refusal .ensures), rw e at (f .ensures .1 .1))))
+    let r = viewOf (s .args .receiver) in
+    let xs = interleaved (s .args .samples .now) in
+    let e = toZ-ofZ w64 _ (s .fits .first) in
+    let stop = f .ensures .1 .0 ∙ ap (λ (z : ℤ). feedOf r xs z .stop) e in (
+      f .ensures .0 ∙ ap (λ (z : ℤ). feedOf r xs z .taken) e,
+      (c .before .hands-slot .ensures ∙ ap handsSlot stop, (c .stop-refusal .ensures ∙ ap stopRefusal stop, f .ensures .1 .1 ∙ ap (λ (z : ℤ). feedOf r xs z .receiver) e)),
+    )
 
 pub tetra-feed-spec : {M : Type 1} → statement M
 tetra-feed-spec =

@@ -1,13 +1,12 @@
 -- `receiver::tetra_receiver_new` meets its contract, by `new`.
-use borrow.Author.Needs.{needs}
 use Rattle.modem.proofs.receiver.tetra_receiver_new.Statement.{statement}
 use Rattle.modem.proofs.receiver.tetra_receiver_new.Tie as tie
 
 mode-of-requires : tie.Need-mode-of-requires
-mode-of-requires c κs = search needs
+mode-of-requires c κs = tt
 
 new-requires : tie.Need-new-requires
-new-requires c κs = search needs
+new-requires c κs = tt
 
 returns : tie.Need-returns
 returns c = rw (← c .before .mode-of .ensures) (c .new .ensures)
