@@ -138,7 +138,7 @@ struct tetra_taken {
  *
  * mode: one of TETRA_MODE_..; any other number counts as Idle. A downlink receiver starts with TETRA_MODE_DL_SEARCHING, an
  *   uplink one with TETRA_MODE_IDLE and then tetra_follow.
- * Cost: the struct is filled once.
+ * Cost: the struct is filled once; under a microsecond.
  */
 struct tetra_receiver tetra_receiver_new(uint32_t mode);
 
@@ -149,8 +149,8 @@ struct tetra_receiver tetra_receiver_new(uint32_t mode);
  *   zeros stand in for at most the last 1,020 of them.
  *
  * The refusal is 0, 1, 2 or 10. A slot may be handed over: tetra_take tells.
- * Cost: the struct is copied a few times, so tetra_feed is much faster for more than a few samples. At a window's close
- *   some 1,000 samples are read again; each missing sample costs as much as one given.
+ * Cost: some microseconds, since the struct is copied a few times: tetra_feed is much faster for a row of samples. At a
+ *   window's close some 1,000 samples are read again. A missing sample that zeros stand in for costs as much as one given.
  */
 struct tetra_received tetra_sample(struct tetra_receiver receiver, float re, float im, int64_t counter);
 
@@ -161,7 +161,7 @@ struct tetra_received tetra_sample(struct tetra_receiver receiver, float re, flo
  *
  * Where `slot` is true the slot waits: take it, then feed what is left, from samples + 2 * taken and first + taken on.
  * Where `refusal` is not 0 (1, 2 or 10) the sample at `taken` is refused. Otherwise all samples were taken.
- * Cost: each sample taken costs the filter's 32 products and a magnitude; the struct is copied a few times in all.
+ * Cost: some microseconds for the struct, then some 50 nanoseconds a sample taken, windows included.
  */
 struct tetra_fed tetra_feed(struct tetra_receiver receiver, const float *samples, size_t samples_len, int64_t first);
 
@@ -171,7 +171,7 @@ struct tetra_fed tetra_feed(struct tetra_receiver receiver, const float *samples
  *   bits and zeros behind them: that of the whole slot and, of an uplink receiver, those of its halves.
  *
  * The refusal is 0, 3 or 11. A slot is taken once, and a slot that is not taken is lost when the next one is handed over.
- * Cost: the lent bytes are filled once and the struct is copied a few times.
+ * Cost: the lent bytes are filled once, and the struct is copied a few times: some microseconds.
  */
 struct tetra_taken tetra_take(struct tetra_receiver receiver, uint8_t *slot, size_t slot_len, uint8_t *subslot1,
                               size_t subslot1_len, uint8_t *subslot2, size_t subslot2_len);
@@ -182,7 +182,7 @@ struct tetra_taken tetra_take(struct tetra_receiver receiver, uint8_t *slot, siz
  * other: the one to follow. If it searches, the receiver turns Idle; if it is locked, the receiver turns Ul and takes over
  *   its reference time, and an Idle one its last slot number too. Call it again after each slot that the other hands over.
  *
- * The refusal is 0 or 13. Cost: both structs are copied a few times.
+ * The refusal is 0 or 13. Cost: the structs are copied: some microseconds.
  */
 struct tetra_received tetra_follow(struct tetra_receiver receiver, struct tetra_receiver other);
 
@@ -191,7 +191,7 @@ struct tetra_received tetra_follow(struct tetra_receiver receiver, struct tetra_
  * blk1, bbk, blk2: its blocks, one byte a bit, 0 or 1: 120, 30 and 216 of them.
  * bits: 510 bytes that are lent for the call. An accepted call fills them with the burst's bits.
  *
- * Returns 0, 3 or 4. Cost: each bit is written a few times; about a microsecond.
+ * Returns 0, 3 or 4. Cost: each bit is read and written a few times; under a microsecond.
  */
 uint32_t tetra_build_sync(const uint8_t *blk1, size_t blk1_len, const uint8_t *bbk, size_t bbk_len, const uint8_t *blk2,
                           size_t blk2_len, uint8_t *bits, size_t bits_len);
