@@ -7,9 +7,10 @@
  *
  * A receiver is a struct of 26,552 bytes that goes in by value; the next one comes back. A call neither keeps nor changes
  * the one that it was given. Keep a receiver as it was returned: then each answer is what the contracts say of the calls
- * made so far. A struct with other numbers is no error either: a number that no call could have left counts as a valid one
- * (a mode above 3 as Idle, a slot number modulo its range, a time out of range as 0). Only the flags of type bool must
- * hold 0 or 1. A call needs less than 320 KB of stack, its arguments and its result included.
+ * made so far. A struct with other numbers is safe too: where a call works with a number that no call could have left, it
+ * counts as a valid one (a mode above 3 as Idle, a time out of range as 0, the current slot modulo its range, a view that
+ * does not fit as empty). Only the flags of type bool must hold 0 or 1. A call needs less than 320 KB of stack, its
+ * arguments and its result included.
  */
 #ifndef TETRA_MODEM_H
 #define TETRA_MODEM_H
@@ -50,7 +51,7 @@ extern "C" {
 #define TETRA_SYNC 4u
 
 /* Modes of a receiver. */
-#define TETRA_MODE_IDLE 0u         /* closes no window */
+#define TETRA_MODE_IDLE 0u         /* hands no slot over */
 #define TETRA_MODE_DL_SEARCHING 1u /* downlink, looks for a synchronization burst */
 #define TETRA_MODE_DL 2u           /* downlink, slot timing known */
 #define TETRA_MODE_UL 3u           /* uplink, slot timing taken from a downlink receiver */
@@ -180,7 +181,8 @@ struct tetra_taken tetra_take(struct tetra_receiver receiver, uint8_t *slot, siz
  *
  * receiver: in mode Idle or Ul; a receiver that finds its own timing is refused.
  * other: the one to follow. If it searches, the receiver turns Idle; if it is locked, the receiver turns Ul and takes over
- *   its reference time, and an Idle one its last slot number too. Call it again after each slot that the other hands over.
+ *   its reference time, and an Idle one its last slot number too. The other moves its reference time as it tracks its
+ *   carrier: give the order again from time to time, as after each slot.
  *
  * The refusal is 0 or 13. Cost: the structs are copied: some microseconds.
  */

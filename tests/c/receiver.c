@@ -17,6 +17,7 @@ static const char *SYNC = "11000001100111001110100111000001100111";
 
 static uint8_t blk1[216], bbk[30], blk2[216];
 static uint8_t bits[TETRA_SLOT_BITS + ROOM];
+static float quiet[2 * 10000];
 static int faults;
 
 static void expect(const char *what, int64_t got, int64_t want)
@@ -209,7 +210,8 @@ static void layout(void)
 
 /* ---- samples */
 
-static void refused_sample(const char *what, struct tetra_receiver before, float re, float im, int64_t counter, uint32_t refusal)
+static void refused_sample(const char *what, struct tetra_receiver before, float re, float im, int64_t counter,
+                           uint32_t refusal)
 {
     struct tetra_received got = tetra_sample(before, re, im, counter);
 
@@ -243,7 +245,6 @@ static void samples(void)
 
 static void blocks(void)
 {
-    static float quiet[2 * 10000];
     struct tetra_receiver r = tetra_receiver_new(TETRA_MODE_DL_SEARCHING);
     struct tetra_fed fed = tetra_feed(r, quiet, 2 * 10000, 0);
 
@@ -384,6 +385,42 @@ static void follows(void)
     expect("of one that searches again, mode", got.receiver.mode, TETRA_MODE_IDLE);
 }
 
+/* ---- numbers that no call could have left */
+
+static void any_numbers(void)
+{
+    struct tetra_receiver r, other = tetra_receiver_new(TETRA_MODE_DL);
+
+    memset(&r, 0xff, sizeof r);
+    r.demodulated_slot_available = true;
+    struct tetra_taken got = take(r, 510, 254, 254);
+    expect("any numbers, taken", got.refusal, TETRA_ACCEPTED);
+    expect("any numbers, type", got.full.train_type, TETRA_NONE);
+    expect("any numbers, length", (int64_t)got.full.burst_len, 0);
+    for (size_t i = 0; i < 510; i++)
+        expect("any numbers, slot", slot[i], 0);
+    expect("any numbers, follow", tetra_follow(r, other).receiver.mode, TETRA_MODE_UL);
+    expect("any numbers, sample", tetra_sample(r, 1.0f, 1.0f, 0).refusal, TETRA_ACCEPTED);
+
+    for (uint8_t mode = 0; mode < 5; mode++) {
+        size_t done = 0, slots = 0;
+
+        memset(&r, 0xff, sizeof r);
+        r.demodulated_slot_available = false;
+        r.mode = mode;
+        while (done < 5000 && slots < 10) {
+            struct tetra_fed fed = tetra_feed(r, quiet, 2 * (5000 - done), (int64_t)done);
+
+            expect("any numbers, feed", fed.refusal, TETRA_ACCEPTED);
+            done += fed.taken;
+            slots += fed.slot;
+            r = fed.receiver;
+        }
+        expect("any numbers, samples", (int64_t)done, 5000);
+        expect("any numbers, a slot", slots > 0, mode == TETRA_MODE_DL || mode == TETRA_MODE_UL);
+    }
+}
+
 /* ---- a carrier: bursts as samples, found, numbered and taken */
 
 static const float TAPS[16] = {
@@ -458,6 +495,7 @@ int main(void)
     blocks();
     takes();
     follows();
+    any_numbers();
     received();
     return faults == 0 ? 0 : 1;
 }
