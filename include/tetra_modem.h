@@ -1,12 +1,21 @@
-/* The C interface of the TETRA slot modem: target/staticlib/libmodem.a, built by `rt staticlib modem`.
+/* The C interface of the TETRA slot modem: target/staticlib/libmodem.a, built by `rt staticlib modem`, for x86-64.
  *
- * A slice is passed as a pointer and then a length. The pointer must not be NULL, also where the length is 0, and must be
- * valid for that many bytes; a slice that a call may write must not overlap another one of the same call. Within that,
- * every call returns for every input. The calls keep no state, allocate nothing and may run in several threads at once.
+ * A slice is passed as a pointer and then a length, counted in elements. The pointer must not be NULL, also where the
+ * length is 0, and must be valid for that many elements; a slice that a call may write must not overlap another one of the
+ * same call. Within that, every call returns for every input. The library keeps no state of its own, allocates nothing, and
+ * its calls may run in several threads at once.
+ *
+ * A receiver is a struct of 26,552 bytes that goes in by value; the next one comes back. A call neither keeps nor changes
+ * the one that it was given. Keep a receiver as it was returned: then each answer is what the contracts say of the calls
+ * made so far. A struct with other numbers is safe too: where a call works with a number that no call could have left, it
+ * counts as a valid one (a mode above 3 as Idle, a time out of range as 0, the current slot modulo its range, a view that
+ * does not fit as empty). Only the flags of type bool must hold 0 or 1. A call needs less than 320 KB of stack, its
+ * arguments and its result included.
  */
 #ifndef TETRA_MODEM_H
 #define TETRA_MODEM_H
 
+#include <stdbool.h>
 #include <stddef.h>
 #include <stdint.h>
 
@@ -14,11 +23,20 @@
 extern "C" {
 #endif
 
-/* What a call returns: 0, or the number of its refusal, the smallest that holds. A refused call writes nothing. */
+/* 0, or the number of a refusal, the smallest that holds. A refused call writes no lent byte, and the receiver that it
+ * returns is the one that it was given. */
 #define TETRA_ACCEPTED 0u
-#define TETRA_BAD_LENGTH 3u /* a slice has the wrong length */
-#define TETRA_BAD_BIT 4u    /* a bit byte is neither 0 nor 1 */
-#define TETRA_BAD_KIND 7u   /* a slot kind is above 2 */
+#define TETRA_BAD_SAMPLE 1u     /* a sample part is NaN, infinite, or beyond 1,024 either side of zero */
+#define TETRA_BAD_COUNTER 2u    /* a sample counter is below 0 or above 137,438,953,471 */
+#define TETRA_BAD_LENGTH 3u     /* a slice has the wrong length */
+#define TETRA_BAD_BIT 4u        /* a bit byte is neither 0 nor 1 */
+#define TETRA_BAD_TRAINING 5u   /* a normal burst is wanted with a training sequence other than 1 or 2 */
+#define TETRA_BAD_SLOT 6u       /* a slot number to send is above 283,115,519 */
+#define TETRA_BAD_KIND 7u       /* a slot kind is above 2 */
+#define TETRA_PAST_COUNTER 10u  /* the counter is below the one after the last accepted sample */
+#define TETRA_NO_SLOT 11u       /* no slot waits to be taken */
+#define TETRA_NEED_MORE 12u     /* the sender needs the next slot */
+#define TETRA_NOT_FOLLOWING 13u /* the receiver told to follow finds its own timing: its mode is 1 or 2 */
 
 /* Slot kinds, and how many bits their windows have. */
 #define TETRA_DOWNLINK 0u    /* 510 */
@@ -32,7 +50,164 @@ extern "C" {
 #define TETRA_EXTENDED 3u
 #define TETRA_SYNC 4u
 
+/* Modes of a receiver. */
+#define TETRA_MODE_IDLE 0u         /* hands no slot over */
+#define TETRA_MODE_DL_SEARCHING 1u /* downlink, looks for a synchronization burst */
+#define TETRA_MODE_DL 2u           /* downlink, slot timing known */
+#define TETRA_MODE_UL 3u           /* uplink, slot timing taken from a downlink receiver */
+
 #define TETRA_ANSWER_BYTES 6u
+#define TETRA_SLOT_BITS 510u
+#define TETRA_HALF_SLOT_BITS 254u
+#define TETRA_RECEIVER_BYTES 26552u
+
+/* A window's bits and the burst found in them. */
+struct tetra_finder {
+    uint8_t bits[510];
+    size_t bits_len;
+    uint8_t train_type;
+    size_t train_errs;
+    size_t burst_pos;
+    size_t burst_len;
+};
+
+/* The newest 32 samples, oldest first. */
+struct tetra_filter {
+    float re[32];
+    float im[32];
+};
+
+/* A receiver's state. To be read, if at all: a caller need write none of it. */
+struct tetra_receiver {
+    uint8_t mode;
+    int64_t reference_time;
+    int64_t slot_ready_time;
+    uint32_t current_slot;
+    int64_t next_input_sample_count;
+    float averaged_timing_error;
+    uint32_t slots_since_last_valid_burst;
+    uint32_t demodulated_slot_time;
+    bool demodulated_slot_available;
+    struct tetra_finder full_slot;
+    struct tetra_finder subslot1;
+    struct tetra_finder subslot2;
+    struct tetra_filter matched_filter;
+    float past_re[2048];
+    float past_im[2048];
+    float past_abs[2048];
+    size_t past_index;
+};
+
+#ifdef __cplusplus
+static_assert(sizeof(struct tetra_receiver) == TETRA_RECEIVER_BYTES, "the library's layout of a receiver");
+#elif defined(__STDC_VERSION__) && __STDC_VERSION__ >= 201112L
+_Static_assert(sizeof(struct tetra_receiver) == TETRA_RECEIVER_BYTES, "the library's layout of a receiver");
+#endif
+
+/* A refusal or 0, and the next receiver. */
+struct tetra_received {
+    uint32_t refusal;
+    struct tetra_receiver receiver;
+};
+
+/* What a block of samples came to. */
+struct tetra_fed {
+    size_t taken;     /* so many samples were taken */
+    bool slot;        /* whether the last of them handed a slot over */
+    uint32_t refusal; /* the refusal of the next sample, or 0 */
+    struct tetra_receiver receiver;
+};
+
+/* What is told of a burst view. */
+struct tetra_view {
+    uint8_t train_type; /* its burst type */
+    size_t train_errs;  /* wrong bits in its training sequence (0 or 1), 100 where there is no burst */
+    size_t burst_len;   /* how many lent bytes it fills: 510, 462 or 206, or 0 where there is no burst */
+};
+
+/* A slot that was taken, or the refusal; then number and views are 0. */
+struct tetra_taken {
+    uint32_t refusal;
+    uint32_t number; /* the slot's number, 0 to 283,115,519 */
+    struct tetra_view full;
+    struct tetra_view subslot1;
+    struct tetra_view subslot2;
+    struct tetra_receiver receiver;
+};
+
+/* A new receiver.
+ *
+ * mode: one of TETRA_MODE_..; any other number counts as Idle. A downlink receiver starts with TETRA_MODE_DL_SEARCHING, an
+ *   uplink one with TETRA_MODE_IDLE and then tetra_follow.
+ * Cost: the struct is filled once; under a microsecond.
+ */
+struct tetra_receiver tetra_receiver_new(uint32_t mode);
+
+/* Takes one sample.
+ *
+ * re, im: its parts.
+ * counter: its number, at least the one after the last accepted sample (0 when new). Where samples are missing in between,
+ *   zeros stand in for at most the last 1,020 of them.
+ *
+ * The refusal is 0, 1, 2 or 10. A slot may be handed over: tetra_take tells.
+ * Cost: some microseconds, since the struct is copied a few times: tetra_feed is much faster for a row of samples. At a
+ *   window's close some 1,000 samples are read again. A missing sample that zeros stand in for costs as much as one given.
+ */
+struct tetra_received tetra_sample(struct tetra_receiver receiver, float re, float im, int64_t counter);
+
+/* Takes samples from a block, as tetra_sample would one by one: up to the first that hands a slot over, and no refused one.
+ *
+ * samples: re and im in turn. A left-over part at the end is not taken.
+ * first: the counter of the first sample; the others have the next ones.
+ *
+ * Where `slot` is true the slot waits: take it, then feed what is left, from samples + 2 * taken and first + taken on.
+ * Where `refusal` is not 0 (1, 2 or 10) the sample at `taken` is refused. Otherwise all samples were taken.
+ * Cost: some microseconds for the struct, then some 50 nanoseconds a sample taken, windows included.
+ */
+struct tetra_fed tetra_feed(struct tetra_receiver receiver, const float *samples, size_t samples_len, int64_t first);
+
+/* Takes the slot that was handed over last.
+ *
+ * slot, subslot1, subslot2: 510, 254 and 254 bytes that are lent for the call. An accepted call fills each with a view's
+ *   bits and zeros behind them: that of the whole slot and, of an uplink receiver, those of its halves.
+ *
+ * The refusal is 0, 3 or 11. A slot is taken once, and a slot that is not taken is lost when the next one is handed over.
+ * Cost: the lent bytes are filled once, and the struct is copied a few times: some microseconds.
+ */
+struct tetra_taken tetra_take(struct tetra_receiver receiver, uint8_t *slot, size_t slot_len, uint8_t *subslot1,
+                              size_t subslot1_len, uint8_t *subslot2, size_t subslot2_len);
+
+/* Has an uplink receiver follow the slot timing of a downlink one.
+ *
+ * receiver: in mode Idle or Ul; a receiver that finds its own timing is refused.
+ * other: the one to follow. If it searches, the receiver turns Idle; if it is locked, the receiver turns Ul and takes over
+ *   its reference time, and an Idle one its last slot number too. The other moves its reference time as it tracks its
+ *   carrier: give the order again from time to time, as after each slot.
+ *
+ * The refusal is 0 or 13. Cost: the structs are copied: some microseconds.
+ */
+struct tetra_received tetra_follow(struct tetra_receiver receiver, struct tetra_receiver other);
+
+/* Builds a synchronization burst (EN 300 392-2, 9.4.4.2.6).
+ *
+ * blk1, bbk, blk2: its blocks, one byte a bit, 0 or 1: 120, 30 and 216 of them.
+ * bits: 510 bytes that are lent for the call. An accepted call fills them with the burst's bits.
+ *
+ * Returns 0, 3 or 4. Cost: each bit is read and written a few times; under a microsecond.
+ */
+uint32_t tetra_build_sync(const uint8_t *blk1, size_t blk1_len, const uint8_t *bbk, size_t bbk_len, const uint8_t *blk2,
+                          size_t blk2_len, uint8_t *bits, size_t bits_len);
+
+/* Builds a normal downlink burst (EN 300 392-2, 9.4.4.2.5).
+ *
+ * train: its training sequence, 1 or 2.
+ * blk1, bbk, blk2: as above, 216, 30 and 216 of them.
+ * bits: as above.
+ *
+ * Returns 0, 3, 4 or 5. Cost: as above.
+ */
+uint32_t tetra_build_normal(uint32_t train, const uint8_t *blk1, size_t blk1_len, const uint8_t *bbk, size_t bbk_len,
+                            const uint8_t *blk2, size_t blk2_len, uint8_t *bits, size_t bits_len);
 
 /* Judges a window's kept bits again, as the receiver judged them.
  *

@@ -1,1 +1,3 @@
-pub mod Judge
+pub mod Judging
+pub mod Receiving
+pub mod Building

@@ -1,1 +1,3 @@
 pub mod Judge
+pub mod Receive
+pub mod Build

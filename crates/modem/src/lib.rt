@@ -1,77 +1,17 @@
 // The modem's C interface (include/tetra_modem.h).
-use burst_finder::Finding;
-use burst_finder::SlotType;
-ghost use mathlib.Core.Path.{_≡_};
-ghost use Prim.Native.Nat.{_<_};
-ghost use lib.ListN.{length};
-ghost use Rattle.modem.specs.Judge.{kindOf, wrongWindow, judgeRefusal, answerOf, judgeAnswer};
+mod builder;
+mod judge;
+mod receiver;
 
-// The slot kind of a number that is not refused.
-fn slot_type(kind: u32) -> SlotType
-    ensures { λ r. ⌜ r ≡ kindOf kind ⌝ }
-{
-    match kind {
-        0 => SlotType::Dl,
-        1 => SlotType::UlFull,
-        _ => SlotType::UlSub,
-    }
-}
-
-// Whether the bits have another length than windows of the kind.
-fn wrong_window(kind: u32, bits: &[u8]) -> bool
-    ensures { λ r. ⌜ r ≡ wrongWindow kind (now (bits .entry)) ⌝ }
-{
-    if 2 < kind {
-        return false;
-    }
-    if kind < 2 {
-        bits.len() != 510
-    } else {
-        bits.len() != 254
-    }
-}
-
-// The refusal of a call, or 0.
-fn refusal(kind: u32, bits: &[u8], answer: &[u8]) -> u32
-    ensures { λ r. ⌜ r ≡ judgeRefusal kind (now (bits .entry)) (now (answer .entry)) ⌝ }
-{
-    if answer.len() != 6 {
-        return 3;
-    }
-    if wrong_window(kind, bits) {
-        return 3;
-    }
-    if dsp_types::not_bits(bits) {
-        return 4;
-    }
-    if 2 < kind { 7 } else { 0 }
-}
-
-// The six answer bytes of a finding.
-fn write_answer(f: Finding, answer: &mut [u8])
-    requires { ⌜ (f .«train_errs» < 256) × (f .«burst_pos» < 65536) × (f .«burst_len» < 65536) × (length (now answer) ≡ 6) ⌝ }
-    ensures { λ _. ⌜ now (answer .exit) ≡ answerOf f ⌝ }
-{
-    let train_type = f.train_type;
-    answer[0] = train_type.number();
-    answer[1] = f.train_errs as u8;
-    answer[2] = (f.burst_pos % 256) as u8;
-    answer[3] = (f.burst_pos / 256) as u8;
-    answer[4] = (f.burst_len % 256) as u8;
-    answer[5] = (f.burst_len / 256) as u8;
-}
-
-// Judges kept window bits again: fills the six answer bytes and returns 0, or returns the refusal's number and leaves them alone.
-#[no_mangle]
-pub extern "C" fn tetra_judge(kind: u32, bits: &[u8], answer: &mut [u8]) -> u32
-    ensures { λ r. ⌜ (r ≡ judgeRefusal kind (now (bits .entry)) (now (answer .entry))) × (now (answer .exit) ≡ judgeAnswer kind (now (bits .entry)) (now (answer .entry))) ⌝ }
-{
-    let refused = refusal(kind, bits, &*answer);
-    if refused == 0 {
-        write_answer(
-            burst_finder::check_slot(slot_type(kind), bits),
-            &mut *answer,
-        );
-    }
-    refused
-}
+pub use builder::tetra_build_normal;
+pub use builder::tetra_build_sync;
+pub use judge::tetra_judge;
+pub use receiver::TetraFed;
+pub use receiver::TetraReceived;
+pub use receiver::TetraTaken;
+pub use receiver::TetraView;
+pub use receiver::tetra_feed;
+pub use receiver::tetra_follow;
+pub use receiver::tetra_receiver_new;
+pub use receiver::tetra_sample;
+pub use receiver::tetra_take;

@@ -1,7 +1,7 @@
--- `modem::slot_type` meets its contract, number by number.
-use Rattle.modem.proofs.Judge.{is-dl, is-full, is-sub}
-use Rattle.modem.proofs.slot_type.Statement.{statement}
-use Rattle.modem.proofs.slot_type.Tie as tie
+-- `judge::slot_type` meets its contract, number by number.
+use Rattle.modem.proofs.Judging.{is-dl, is-full, is-sub}
+use Rattle.modem.proofs.judge.slot_type.Statement.{statement}
+use Rattle.modem.proofs.judge.slot_type.Tie as tie
 
 returns : tie.Need-returns
 returns c = is-dl (c .before .args .kind) (c .match .keys1)

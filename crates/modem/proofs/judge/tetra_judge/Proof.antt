@@ -1,9 +1,9 @@
--- `modem::tetra_judge` meets its contract: an accepted call has its lengths, so the finding fits the six bytes; a refused one stores nothing.
+-- `judge::tetra_judge` meets its contract: an accepted call has its lengths, so the finding fits the six bytes; a refused one stores nothing.
 use mathlib.Core.Path.{sym, _∙_}
-use Rattle.modem.proofs.Judge.{answer-six, room, written, kept}
+use Rattle.modem.proofs.Judging.{answer-six, room, written, kept}
 use borrow.Author.Needs.{needs}
-use Rattle.modem.proofs.tetra_judge.Statement.{statement}
-use Rattle.modem.proofs.tetra_judge.Tie as tie
+use Rattle.modem.proofs.judge.tetra_judge.Statement.{statement}
+use Rattle.modem.proofs.judge.tetra_judge.Tie as tie
 
 refusal-requires : tie.Need-refusal-requires
 refusal-requires c κs = search needs

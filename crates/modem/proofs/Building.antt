@@ -1,0 +1,69 @@
+-- A burst into lent bytes: the copy, step by step, and what a call leaves. Assumes nothing.
+use mathlib.Core.Path.{_≡_, refl, sym, ap, _∙_}
+use mathlib.Core.Bool.{true, false, cond, not}
+use mathlib.Core.List.{List, [], _∷_, _++_}
+use Prim.Native.Nat.{ℕ, zero, suc, _+_, _≤_, _<_}
+use native.Mathlib.Omega.{arith}
+use lib.Dec.{eqb}
+use lib.ListN.{length, set, getD, take, drop}
+use borrow.Author.Tests.{eq-eqb, ne-eqb}
+use Rattle.dsp_types.specs.Refusals.{wrongLength}
+use Rattle.slotter.specs.declared.Burst.{Burst}
+use Rattle.slotter.specs.declared.Answer.{Answer}
+use Rattle.slotter.specs.declared.Answer.the-variants.{Built, Refused}
+use Rattle.slotter.specs.Bursts.{Told, told}
+use Rattle.demodulator.specs.Calls.{unless}
+use Rattle.modem.specs.Build.{buildRefusal, lentBurst}
+
+-- ---- the copy
+
+pub copy-step : (from to : List ℕ) (i : ℕ) → i < length from → i < length to
+    → set (take i from ++ drop i to) i (getD from i 0) ≡ take (suc i) from ++ drop (suc i) to
+copy-step [] to i h l = absurd (omega arith)
+copy-step (x ∷ from) [] i h l = absurd (omega arith)
+copy-step (x ∷ from) (y ∷ to) zero h l = refl
+copy-step (x ∷ from) (y ∷ to) (suc i) h l = ap (λ (r : List ℕ). x ∷ r) (copy-step from to i (omega arith) (omega arith))
+
+pub copy-all : (from to : List ℕ) (n : ℕ) → length from ≡ n → length to ≡ n → take n from ++ drop n to ≡ from
+copy-all [] [] n h l = rw (← h)
+copy-all [] (y ∷ to) n h l = absurd (omega arith)
+copy-all (x ∷ from) [] n h l = absurd (omega arith)
+copy-all (x ∷ from) (y ∷ to) zero h l = absurd (omega arith)
+copy-all (x ∷ from) (y ∷ to) (suc n) h l = ap (λ (r : List ℕ). x ∷ r) (copy-all from to n (omega arith) (omega arith))
+
+-- ---- what a call returns and leaves
+
+pub told-bits : (burst : Burst) → burst .bits ≡ told burst .bits
+unfolding told
+told-bits burst = go (burst .answer) (burst .bits)
+  where
+    go : (answer : Answer) (bits : List ℕ) → bits ≡ told (record { answer = answer; bits = bits }) .bits
+    go (Built first last) bits = refl
+    go (Refused n) bits = refl
+
+module _ (burst : Told) (bits : List ℕ) where
+  module _ (n : length bits ≡ 510 → ⊥) where
+    pub bad-room : 3 ≡ buildRefusal burst bits
+    unfolding buildRefusal wrongLength
+    bad-room = rw (ne-eqb (length bits) 510 n)
+
+    pub kept-room : bits ≡ lentBurst burst bits
+    unfolding lentBurst unless
+    kept-room = rw (← bad-room)
+
+  module _ (e : length bits ≡ 510) (number : ℕ) (t : number ≡ burst .number) where
+    pub builder's : number ≡ buildRefusal burst bits
+    unfolding buildRefusal wrongLength
+    builder's = rw (eq-eqb (length bits) 510 e) t
+
+    pub filled : number ≡ 0 → burst .bits ≡ lentBurst burst bits
+    unfolding lentBurst unless
+    filled z = rw (← builder's, z)
+
+    pub kept : (number ≡ 0 → ⊥) → bits ≡ lentBurst burst bits
+    unfolding lentBurst unless
+    kept z = rw (← builder's) (go number z)
+      where
+        go : (m : ℕ) → (m ≡ 0 → ⊥) → bits ≡ unless m (burst .bits) bits
+        go zero z = absurd (z refl)
+        go (suc m) z = refl

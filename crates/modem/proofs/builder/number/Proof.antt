@@ -1,0 +1,22 @@
+-- `builder::number` meets its contract, case by case.
+use Rattle.slotter.specs.Bursts.{told}
+use borrow.Author.Needs.{needs}
+use Rattle.modem.proofs.builder.number.Statement.{statement}
+use Rattle.modem.proofs.builder.number.Tie as tie
+
+enum-told : tie.Need-enum-told
+enum-told c = search needs
+
+enum-known-answer : tie.Need-enum-known-answer
+enum-known-answer c = search needs
+
+returns : tie.Need-returns
+unfolding told
+returns c = search needs
+
+returns-2 : tie.Need-returns-2
+unfolding told
+returns-2 c = search needs
+
+pub number-spec : {M : Type 1} → statement M
+number-spec = tie.close (tie.spec enum-told enum-known-answer returns returns-2)

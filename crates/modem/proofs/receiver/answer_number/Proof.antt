@@ -1,0 +1,22 @@
+-- `receiver::answer_number` meets its contract, case by case.
+use Rattle.demodulator.specs.Calls.{answerNumber}
+use borrow.Author.Needs.{needs}
+use Rattle.modem.proofs.receiver.answer_number.Statement.{statement}
+use Rattle.modem.proofs.receiver.answer_number.Tie as tie
+
+enum-told : tie.Need-enum-told
+enum-told c = search needs
+
+enum-known-answer : tie.Need-enum-known-answer
+enum-known-answer c = search needs
+
+returns : tie.Need-returns
+unfolding answerNumber
+returns c = search needs
+
+returns-2 : tie.Need-returns-2
+unfolding answerNumber
+returns-2 c = search needs
+
+pub answer-number-spec : {M : Type 1} → statement M
+answer-number-spec = tie.close (tie.spec enum-told enum-known-answer returns returns-2)

@@ -1,0 +1,67 @@
+// The burst builders: a burst goes into bytes that are lent.
+use slotter::Answer;
+use slotter::Burst;
+ghost use mathlib.Core.Path.{_≡_};
+ghost use lib.ListN.{length};
+ghost use Rattle.slotter.specs.Bursts.{told, syncBurst, normalBurst};
+ghost use Rattle.modem.specs.Build.{buildRefusal, lentBurst};
+
+// 0, or the refusal's number.
+fn number(burst: Burst) -> u32
+    ensures { λ r. ⌜ r ≡ told burst .number ⌝ }
+{
+    let answer = burst.answer;
+    match answer {
+        Answer::Built(_, _) => 0,
+        Answer::Refused(number) => number,
+    }
+}
+
+fn copy(from: &[u8], to: &mut [u8])
+    requires { ⌜ length (now from) ≡ length (now to) ⌝ }
+    ensures { λ _. ⌜ now (to .exit) ≡ now (from .entry) ⌝ }
+{
+    for i in 0..from.len() {
+        to[i] = from[i];
+    }
+}
+
+// Fills 510 lent bytes with a burst and returns 0, or returns the refusal's number and leaves them alone.
+fn lend(burst: Burst, bits: &mut [u8]) -> u32
+    ensures refusal { λ r. ⌜ r ≡ buildRefusal (told burst) (now (bits .entry)) ⌝ }
+    ensures bits { λ r. ⌜ now (bits .exit) ≡ lentBurst (told burst) (now (bits .entry)) ⌝ }
+{
+    if bits.len() != 510 {
+        return 3;
+    }
+    let refused = number(burst);
+    if refused == 0 {
+        let built = burst.bits;
+        copy(&built, bits);
+    }
+    refused
+}
+
+// Clause 9.4.4.2.6, synchronization continuous downlink burst: blocks of 120, 30 and 216 bits.
+#[no_mangle]
+pub extern "C" fn tetra_build_sync(blk1: &[u8], bbk: &[u8], blk2: &[u8], bits: &mut [u8]) -> u32
+    ensures refusal { λ r. ⌜ r ≡ buildRefusal (syncBurst (now (blk1 .entry)) (now (bbk .entry)) (now (blk2 .entry))) (now (bits .entry)) ⌝ }
+    ensures bits { λ r. ⌜ now (bits .exit) ≡ lentBurst (syncBurst (now (blk1 .entry)) (now (bbk .entry)) (now (blk2 .entry))) (now (bits .entry)) ⌝ }
+{
+    lend(slotter::build_sdb(blk1, bbk, blk2), bits)
+}
+
+// Clause 9.4.4.2.5, normal continuous downlink burst: training sequence 1 or 2, blocks of 216, 30 and 216 bits.
+#[no_mangle]
+pub extern "C" fn tetra_build_normal(
+    train: u32,
+    blk1: &[u8],
+    bbk: &[u8],
+    blk2: &[u8],
+    bits: &mut [u8],
+) -> u32
+    ensures refusal { λ r. ⌜ r ≡ buildRefusal (normalBurst train (now (blk1 .entry)) (now (bbk .entry)) (now (blk2 .entry))) (now (bits .entry)) ⌝ }
+    ensures bits { λ r. ⌜ now (bits .exit) ≡ lentBurst (normalBurst train (now (blk1 .entry)) (now (bbk .entry)) (now (blk2 .entry))) (now (bits .entry)) ⌝ }
+{
+    lend(slotter::build_ndb(train, blk1, bbk, blk2), bits)
+}
