@@ -1,3 +1,4 @@
 pub mod Judge
 pub mod Receive
 pub mod Build
+pub mod Send

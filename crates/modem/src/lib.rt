@@ -2,6 +2,7 @@
 mod builder;
 mod judge;
 mod receiver;
+mod sender;
 
 pub use builder::tetra_build_normal;
 pub use builder::tetra_build_sync;
@@ -15,3 +16,9 @@ pub use receiver::tetra_follow;
 pub use receiver::tetra_receiver_new;
 pub use receiver::tetra_sample;
 pub use receiver::tetra_take;
+pub use sender::TetraSender;
+pub use sender::TetraSent;
+pub use sender::TetraSentSample;
+pub use sender::tetra_send;
+pub use sender::tetra_send_sample;
+pub use sender::tetra_sender_new;

@@ -2,3 +2,4 @@ pub mod Blocks
 pub mod Filled
 pub mod Places
 pub mod Phases
+pub mod Steps

@@ -10,3 +10,4 @@ pub use mapper::DqpskMapper;
 pub use sender::Answer;
 pub use sender::Modulator;
 pub use sender::Sampled;
+pub use sender::Stepped;

@@ -2,6 +2,8 @@
 use crate::due::Due;
 use crate::due::due_now;
 use crate::mapper::DqpskMapper;
+use crate::mapper::input;
+use crate::mapper::phase_after;
 use dsp_types::ComplexSample;
 use dsp_types::SampleCount;
 use dsp_types::TdmaTime;
@@ -27,6 +29,12 @@ pub struct Modulator {
 pub struct Sampled {
     pub answer: Answer,
     pub modulator: Modulator,
+}
+
+pub struct Stepped {
+    pub answer: Answer,
+    pub modulator: Modulator,
+    pub mapper: DqpskMapper,
 }
 
 impl Modulator {
@@ -87,5 +95,30 @@ impl Modulator {
         let d = due_now(sample_counter, slot, has_bits, bits);
         let input = mapper.symbol(d);
         self.feed(d, input)
+    }
+    // The same with the phase record by value, for callers that keep it beside the state.
+    pub fn step(
+        self,
+        mapper: DqpskMapper,
+        sample_counter: SampleCount,
+        slot: TdmaTime,
+        has_bits: bool,
+        bits: &[u8],
+    ) -> Stepped
+        ensures { λ r. ⌜
+            (let d = dueOf («sample_counter» .0) (slot .0) «has_bits» (now (bits .entry)) in
+            (told (r .answer) ≡ tells (senderOf self mapper) d)
+            × (senderOf (r .modulator) (r .mapper) ≡ after (senderOf self mapper) d)) ⌝ }
+    {
+        let d = due_now(sample_counter, slot, has_bits, bits);
+        let phase = phase_after(mapper.phase, d);
+        let sampled = self.feed(d, input(phase, d));
+        let answer = sampled.answer;
+        let modulator = sampled.modulator;
+        Stepped {
+            answer,
+            modulator,
+            mapper: DqpskMapper { phase },
+        }
     }
 }

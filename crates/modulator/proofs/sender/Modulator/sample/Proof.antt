@@ -1,6 +1,6 @@
 -- `Modulator::sample` meets its contract: a walk of its MIR, by hand. `due_now` is called on the slot, the phase record is given to `symbol`, and `feed` answers.
 -- Assumes nothing.
-use mathlib.Core.Path.{_≡_, refl, ap, _∙_}
+use mathlib.Core.Path.{_≡_, refl}
 use mathlib.Core.Bool.{Bool}
 use Prim.Native.Nat.{ℕ}
 use mathlib.Core.List.{[], _∷_, List}
@@ -46,13 +46,12 @@ use Rattle.dsp_types.proofs.SampleCount as N
 use Rattle.dsp_types.proofs.SampleCount.Laws as N′
 use Rattle.dsp_types.proofs.TdmaTime as I
 use Rattle.dsp_types.proofs.TdmaTime.Laws as I′
-use Rattle.fir.specs.Fir.{lineOf}
-use Rattle.modulator.specs.Dqpsk.{phaseAfter, inputOf}
-use Rattle.modulator.specs.Sender.{dueOf, told, toldOf, nextLine, senderOf, tells, after, fedBy}
+use Rattle.modulator.specs.Sender.{dueOf}
 use Rattle.modulator.specs.declared.due.Due.{Due}
 use Rattle.modulator.specs.declared.mapper.DqpskMapper.{DqpskMapper}
 use Rattle.modulator.specs.declared.sender.Modulator.{Modulator}
 use Rattle.modulator.specs.declared.sender.Sampled.{Sampled}
+use Rattle.modulator.proofs.Steps.{Stepped, Fed, Sent, sent}
 use Rattle.modulator.proofs.due.Due as D
 use Rattle.modulator.proofs.due.Due.Laws as D′
 use Rattle.modulator.proofs.mapper.DqpskMapper as T
@@ -92,25 +91,6 @@ stayed = (
     ),
   ),
 )
-
--- what `symbol` and `feed` say of what is due
-abbrev Stepped : ℕ → Due → ℕ → ComplexSample → Type 0
-Stepped n d k x = (k ≡ phaseAfter n d) × (x ≡ inputOf (phaseAfter n d) d)
-
-abbrev Fed : Modulator → Due → ComplexSample → Sampled → Type 0
-Fed m d x r = (told (r .answer) ≡ toldOf (lineOf (m .filter)) x d) × (lineOf (r .modulator .filter) ≡ nextLine (lineOf (m .filter)) x d)
-
--- ... and `sample` of it
-abbrev Sent : Modulator → DqpskMapper → Due → DqpskMapper → Sampled → Type 0
-Sent m h d k r = (told (r .answer) ≡ tells (senderOf m h) d) × (senderOf (r .modulator) k ≡ after (senderOf m h) d)
-
-sent : (m : Modulator) (h : DqpskMapper) (d e : Due) (k : DqpskMapper) (x : ComplexSample) (r : Sampled) → d ≡ e → Stepped (h .phase) d (k .phase) x → Fed m d x r → Sent m h e k r
-unfolding senderOf tells after fedBy
-sent m h d e k x r p s f =
-    let y : x ≡ inputOf (phaseAfter (h .phase) e) e = s .1 ∙ ap (λ (c : Due). inputOf (phaseAfter (h .phase) c) c) p in
-    let line = f .1 ∙ (λ i. nextLine (lineOf (m .filter)) (y i) (p i)) in
-    let phase = s .0 ∙ ap (phaseAfter (h .phase)) p in
-    (f .0 ∙ (λ i. toldOf (lineOf (m .filter)) (y i) (p i)), λ i. record { line = line i; phase = phase i })
 
 module _ {M : Type 1} (𝓤 : URA M) (H : Heap 𝓤) (A : Atoms 𝓤) (at-mem : Memory → SProp 𝓤) (run : Routine → Fun 𝓤) where
   -- the contracts that the proof cites

@@ -1,0 +1,31 @@
+-- The sender's calls, in numbers (01, "The sender"). Definitions only.
+use Prim.Native.Nat.{ℕ, zero, suc}
+use mathlib.Core.Bool.{Bool, true, false, not}
+use mathlib.Core.List.{List, [], _∷_}
+use lib.Dec.{eqb}
+use lib.ListN.{replicate}
+use Rattle.dsp_types.specs.declared.ComplexSample.{ComplexSample}
+use Rattle.dsp_types.specs.Samples.{silence}
+use Rattle.modulator.specs.Sender.{Told, Sender, senderOf}
+use Rattle.modem.specs.declared.sender.TetraSender.{TetraSender}
+
+-- bits are given where the number is not 0
+abbrev pub isGiven : ℕ → Bool
+isGiven n = not (eqb n 0)
+
+-- the sender that a C program holds
+unfoldable pub senderIn : TetraSender → Sender
+senderIn s = senderOf (s .modulator) (s .mapper)
+
+-- a new one: silence so far, at phase 0
+unfoldable pub newSender : Sender
+newSender = record { line = replicate 32 silence; phase = 0 }
+
+-- the first sample of a list; silence where it has none
+unfoldable pub firstOf : List ComplexSample → ComplexSample
+firstOf [] = silence
+firstOf (x ∷ xs) = x
+
+-- the sample that an answer carries; a refusal carries none
+unfoldable pub sampleTold : Told → ComplexSample
+sampleTold t = firstOf (t .samples)
