@@ -1,7 +1,7 @@
 # make demo      the main job, on a shipped example: bursts sent, received and printed
 # make test      every proof, every must-fail edit, every program and test; the gate
 # make compare   the same calls through this library and through the original Rust, answers compared
-# make bench     nanoseconds a sample of the filter and the magnitude, beside the original Rust and the machine's hypot
+# make bench     nanoseconds of every stage, beside the original Rust, from one driver in one run
 .PHONY: demo test compare bench
 
 demo:
@@ -16,6 +16,6 @@ compare:
 	@compare/run full $$(cat tests/replay/kinds)
 
 bench:
-	@rt staticlib bench_signal >/dev/null 2>&1 || rt check bench_signal
-	@BENCH_LIBRARY=$(CURDIR)/target/staticlib/libbench_signal.a cargo run --quiet --offline --profile timed \
+	@for crate in bench_signal modem; do rt staticlib $$crate >/dev/null 2>&1 || rt check $$crate || exit 1; done
+	@BENCH_LIBRARIES=$(CURDIR)/target/staticlib cargo run --quiet --offline --profile timed \
 		--features bench --bin bench --manifest-path compare/Cargo.toml --target-dir compare/target

@@ -48,7 +48,9 @@ fn main() {
     println!("cargo:rerun-if-env-changed=TETRA_SOURCE");
     println!("cargo:rerun-if-changed=build.rs");
 
-    if env::var("CARGO_FEATURE_BENCH").is_ok() {
+    // What is timed is the original as published.
+    let is_bench = env::var("CARGO_FEATURE_BENCH").is_ok();
+    if is_bench {
         link_bench();
     }
 
@@ -58,7 +60,10 @@ fn main() {
         for file in files {
             let mut text = read(&source.join(folder).join(format!("{file}.rs")));
             if *file == "demodulator" {
-                text = patched(text) + &declaration(&manifest.join("src"), CHILD_MODULE);
+                if !is_bench {
+                    text = patched(text);
+                }
+                text += &declaration(&manifest.join("src"), CHILD_MODULE);
             }
             write(&out.join(format!("{file}.rs")), &text);
             tree += "#[allow(dead_code, unused_imports)]\n";
@@ -69,14 +74,17 @@ fn main() {
     write(&out.join("original.rs"), &(tree + "}\n"));
 }
 
-/// Links the static library with the timed functions into the bench program.
+/// Links the static libraries with the timed functions into the bench program.
 fn link_bench() {
-    println!("cargo:rerun-if-env-changed=BENCH_LIBRARY");
-    let Ok(library) = env::var("BENCH_LIBRARY") else {
-        stop("BENCH_LIBRARY must name libbench_signal.a");
+    println!("cargo:rerun-if-env-changed=BENCH_LIBRARIES");
+    let Ok(folder) = env::var("BENCH_LIBRARIES") else {
+        stop("BENCH_LIBRARIES must name the folder of libbench_signal.a and libmodem.a");
     };
-    println!("cargo:rerun-if-changed={library}");
-    println!("cargo:rustc-link-arg-bin=bench={library}");
+    for library in ["libbench_signal.a", "libmodem.a"] {
+        let library = Path::new(&folder).join(library);
+        println!("cargo:rerun-if-changed={}", library.display());
+        println!("cargo:rustc-link-arg-bin=bench={}", library.display());
+    }
 }
 
 fn declaration(folder: &Path, module: &str) -> String {

@@ -5,8 +5,8 @@
  * same call. Within that, every call returns for every input. The library keeps no state of its own, allocates nothing, and
  * its calls may run in several threads at once.
  *
- * A receiver is a struct of 26,552 bytes that goes in by value; the next one comes back. A call neither keeps nor changes
- * the one that it was given. Keep a receiver as it was returned: then each answer is what the contracts say of the calls
+ * A receiver is a struct of 26,552 bytes, a sender one of 260, that goes in by value; the next one comes back. A call
+ * neither keeps nor changes the one that it was given. Keep a receiver as it was returned: then each answer is what the contracts say of the calls
  * made so far. A struct with other numbers is safe too: where a call works with a number that no call could have left, it
  * counts as a valid one (a mode above 3 as Idle, a time out of range as 0, the current slot modulo its range, a view that
  * does not fit as empty). Only the flags of type bool must hold 0 or 1. A call needs less than 320 KB of stack, its
@@ -23,8 +23,8 @@
 extern "C" {
 #endif
 
-/* 0, or the number of a refusal, the smallest that holds. A refused call writes no lent byte, and the receiver that it
- * returns is the one that it was given. */
+/* 0, or the number of a refusal, the smallest that holds. A refused call writes no lent byte, and the receiver or
+ * sender that it returns is the one that it was given. */
 #define TETRA_ACCEPTED 0u
 #define TETRA_BAD_SAMPLE 1u     /* a sample part is NaN, infinite, or beyond 1,024 either side of zero */
 #define TETRA_BAD_COUNTER 2u    /* a sample counter is below 0 or above 137,438,953,471 */
@@ -135,6 +135,27 @@ struct tetra_taken {
     struct tetra_receiver receiver;
 };
 
+/* A sender's state: the filter line, and the phase of the last symbol in eighths of a turn (any number counts modulo 8). */
+struct tetra_sender {
+    struct tetra_filter filter;
+    uint8_t phase;
+};
+
+/* What a block of sent samples came to. */
+struct tetra_sent {
+    size_t count;     /* so many samples were written */
+    uint32_t refusal; /* the refusal of the next sample, or 0 */
+    struct tetra_sender sender;
+};
+
+/* A sent sample, or the refusal; then the parts are 0. */
+struct tetra_sent_sample {
+    uint32_t refusal;
+    float re;
+    float im;
+    struct tetra_sender sender;
+};
+
 /* A new receiver.
  *
  * mode: one of TETRA_MODE_..; any other number counts as Idle. A downlink receiver starts with TETRA_MODE_DL_SEARCHING, an
@@ -187,6 +208,35 @@ struct tetra_taken tetra_take(struct tetra_receiver receiver, uint8_t *slot, siz
  * The refusal is 0 or 13. Cost: the structs are copied: some microseconds.
  */
 struct tetra_received tetra_follow(struct tetra_receiver receiver, struct tetra_receiver other);
+
+/* A new sender: nothing sent so far, phase 0. Cost: the struct is filled once. */
+struct tetra_sender tetra_sender_new(void);
+
+/* Sends one sample.
+ *
+ * counter: its number, 0 to 137,438,953,471.
+ * slot: the slot that is sent, 0 to 283,115,519. Slot n has the counters from 1020 * n - 16 on, 1,020 of them (the filter's
+ *   delay is 16 samples); before them a sample is silence, behind them it is refused with 12: give the next slot.
+ * has_bits: 0 for a slot without a burst; then the bits are not looked at.
+ * bits: 510 bytes, 0 or 1, in every call for the slot.
+ *
+ * The refusal is 0, 2, 3, 4, 6 or 12. Cost: 510 bytes are checked and 32 samples filtered; about a tenth of a microsecond.
+ */
+struct tetra_sent_sample tetra_send_sample(struct tetra_sender sender, int64_t counter, uint32_t slot, uint32_t has_bits,
+                                           const uint8_t *bits, size_t bits_len);
+
+/* Sends samples of one slot, as tetra_send_sample would one by one: as many as there is room for, or up to the first that
+ * is refused.
+ *
+ * first: the counter of the first sample; the others have the next ones.
+ * slot, has_bits, bits, bits_len: as above.
+ * out: room for the samples, re and im in turn. What is behind the samples written is left as it was.
+ *
+ * `count` samples were written. Where `refusal` is not 0 the next sample is refused by it; 12 at the end of the slot.
+ * Cost: the bits are checked once, then some 10 nanoseconds a sample.
+ */
+struct tetra_sent tetra_send(struct tetra_sender sender, int64_t first, uint32_t slot, uint32_t has_bits, const uint8_t *bits,
+                             size_t bits_len, float *out, size_t out_len);
 
 /* Builds a synchronization burst (EN 300 392-2, 9.4.4.2.6).
  *

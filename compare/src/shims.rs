@@ -53,8 +53,16 @@ impl Mul<Complex<f32>> for f32 {
 }
 
 pub mod complex {
-    /// Imported for `abs()` alone, which a stand-in replaces.
-    pub trait ComplexFloat {}
+    /// Imported for `abs()` alone, which a stand-in replaces but where the original is timed.
+    pub trait ComplexFloat {
+        fn abs(self) -> f32;
+    }
+
+    impl ComplexFloat for super::Complex<f32> {
+        fn abs(self) -> f32 {
+            self.re.hypot(self.im)
+        }
+    }
 }
 
 pub fn zero<T: Default>() -> T {

@@ -187,15 +187,6 @@ fn pattern(text: &[u8]) -> Number {
     Number::Of(value)
 }
 
-// The float with that bit pattern; the patterns of NaN give one and the same NaN.
-fn float(pattern: u32) -> f32 {
-    if 0x7f80_0000 < pattern % 0x8000_0000 {
-        0.0 / 0.0
-    } else {
-        f32::from_bits(pattern)
-    }
-}
-
 // A number that is known to fit, else the largest that does.
 pub fn narrow(value: u64) -> u32 {
     if value <= 0xffff_ffff {
@@ -214,8 +205,8 @@ pub fn read_sample(line: &[u8], fields: Fields, k: usize) -> Sample {
         return Sample::Bad;
     };
     Sample::Of(ComplexSample {
-        re: float(narrow(re)),
-        im: float(narrow(im)),
+        re: cf32::float(narrow(re)),
+        im: cf32::float(narrow(im)),
     })
 }
 

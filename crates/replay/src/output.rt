@@ -79,7 +79,7 @@ impl Output {
     // The bit pattern of a float, 8 hexadecimal digits.
     fn hex(self, block: &mut Block, x: f32) -> Output {
         let mut text = [0u8; 16];
-        let k = io::hex(pattern(x) as u64, 8, &mut text);
+        let k = io::hex(cf32::pattern(x) as u64, 8, &mut text);
         self.text(block, &text[..k])
     }
 
@@ -99,9 +99,4 @@ impl Output {
             .number(block, number as u64)
             .text(block, b"\n")
     }
-}
-
-// NaN has many patterns: it is printed as one of them.
-fn pattern(x: f32) -> u32 {
-    if x != x { 0x7fc0_0000 } else { f32::to_bits(x) }
 }

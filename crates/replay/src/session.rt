@@ -93,11 +93,10 @@ impl Session {
         has_bits: bool,
         bits: &[u8],
     ) -> Step {
-        let mut re = [0.0f32; 1];
-        let mut im = [0.0f32; 1];
+        let mut parts = [0.0f32; 2];
         let old = self.sender;
         let phase = self.phase;
-        let sent = old.block(phase, counter, slot, has_bits, bits, &mut re, &mut im);
+        let sent = old.block(phase, counter, slot, has_bits, bits, &mut parts);
         let sender = sent.modulator;
         let mapper = sent.mapper;
         self.sender = sender;
@@ -109,8 +108,8 @@ impl Session {
             };
         }
         let sample = ComplexSample {
-            re: re[0],
-            im: im[0],
+            re: parts[0],
+            im: parts[1],
         };
         Step {
             session: self,

@@ -1,6 +1,6 @@
-//! Times the filter and the magnitude of this library and of the original on one input, in turn, and prints them
-//! side by side. The outputs must be equal bit for bit.
+//! The filter and the magnitude, over a downlink. The outputs must be equal bit for bit.
 
+use crate::print;
 use compare::generate::random::Random;
 use compare::generate::signal::{downlink_burst, Carrier, Channel};
 use compare::phy::components::dsp_types::ComplexSample;
@@ -152,15 +152,6 @@ fn times<const N: usize>(mut run: impl FnMut(usize, Range<usize>)) -> [Duration;
     total
 }
 
-/// Prints a row for each competitor; the first is what the others are held to.
-fn print<const N: usize>(names: [&str; N], times: [Duration; N]) {
-    for (name, time) in names.iter().zip(times) {
-        let nanoseconds = time.as_secs_f64() * 1e9 / SAMPLES as f64;
-        let ratio = time.as_secs_f64() / times[0].as_secs_f64();
-        println!("{name:<42} {nanoseconds:>8.2} {ratio:>8.2}");
-    }
-}
-
 fn same_bits(a: &[f32], b: &[f32]) -> bool {
     a.iter().zip(b).all(|(a, b)| a.to_bits() == b.to_bits())
 }
@@ -183,7 +174,7 @@ fn bench_filters(from: &Parts) -> Parts {
     for out in others {
         assert!(same_bits(&out.re, &expected.re) && same_bits(&out.im, &expected.im));
     }
-    print(names, times);
+    print(names, times, SAMPLES);
     expected.clone()
 }
 
@@ -200,12 +191,10 @@ fn bench_magnitudes(from: &Parts) {
         magnitudes[i](black_box(re), black_box(im), &mut outs[i][at]);
     });
     assert!(same_bits(&outs[1], &outs[2]));
-    print(names, times);
+    print(names, times, SAMPLES);
 }
 
-fn main() {
-    println!("{SAMPLES} samples, best of {RUNS} runs, outputs equal bit for bit");
-    println!("{:<42} {:>8} {:>8}", "", "ns", "ratio");
+pub fn bench() {
     let filtered = bench_filters(&input());
     bench_magnitudes(&filtered);
 }

@@ -1,0 +1,332 @@
+//! Receiver, sender, builder and finder. The slots and bursts must be equal, and the sent samples bit for bit.
+
+use crate::print;
+use compare::generate::random::Random;
+use compare::generate::signal::{downlink_burst, Carrier, Channel};
+use compare::phy::components::demodulator::{demodulator_private, Demodulator, Mode};
+use compare::phy::components::dsp_types::ComplexSample;
+use compare::phy::components::modulator::{self, Modulator};
+use compare::phy::components::slotter;
+use compare::phy::traits::rxtx_dev::TxSlotBits;
+use compare::TdmaTime;
+use std::hint::black_box;
+use std::time::{Duration, Instant};
+
+const SLOTS: usize = 1000;
+const SLOT: usize = 1020;
+const SAMPLES: usize = SLOTS * SLOT;
+/// Single calls of the receiver copy its state: fewer samples will do.
+const FEW: usize = 20 * SLOT;
+const CARRIERS: usize = 8;
+const RUNS: usize = 5;
+
+/// This library's functions (include/tetra_modem.h). A slice passes as a pointer and then its length.
+mod library {
+    #[derive(Clone, Copy)]
+    #[repr(C)]
+    pub struct Receiver {
+        head: [u32; 13],
+        pub slot_waits: bool,
+        rest: [u64; 3312],
+    }
+
+    #[derive(Clone, Copy)]
+    #[repr(C)]
+    pub struct Sender {
+        pub filter: [f32; 64],
+        pub phase: u8,
+    }
+
+    #[repr(C)]
+    pub struct Received {
+        pub refusal: u32,
+        pub receiver: Receiver,
+    }
+
+    #[repr(C)]
+    pub struct Fed {
+        pub taken: usize,
+        pub slot: bool,
+        pub refusal: u32,
+        pub receiver: Receiver,
+    }
+
+    #[derive(Clone, Copy)]
+    #[repr(C)]
+    pub struct View {
+        pub train_type: u8,
+        pub train_errs: usize,
+        pub burst_len: usize,
+    }
+
+    #[repr(C)]
+    pub struct Taken {
+        pub refusal: u32,
+        pub number: u32,
+        pub views: [View; 3],
+        pub receiver: Receiver,
+    }
+
+    #[repr(C)]
+    pub struct Sent {
+        pub count: usize,
+        pub refusal: u32,
+        pub sender: Sender,
+    }
+
+    #[repr(C)]
+    pub struct SentSample {
+        pub refusal: u32,
+        pub re: f32,
+        pub im: f32,
+        pub sender: Sender,
+    }
+
+    #[rustfmt::skip]
+    extern "C" {
+        pub fn tetra_receiver_new(mode: u32) -> Receiver;
+        pub fn tetra_sample(receiver: Receiver, re: f32, im: f32, counter: i64) -> Received;
+        pub fn tetra_feed(receiver: Receiver, samples: *const f32, _: usize, first: i64) -> Fed;
+        pub fn tetra_take(receiver: Receiver, slot: *mut u8, _: usize, half1: *mut u8, _: usize, half2: *mut u8, _: usize) -> Taken;
+        pub fn tetra_sender_new() -> Sender;
+        pub fn tetra_send_sample(sender: Sender, counter: i64, slot: u32, has_bits: u32, bits: *const u8, _: usize) -> SentSample;
+        pub fn tetra_send(sender: Sender, first: i64, slot: u32, has_bits: u32, bits: *const u8, _: usize, out: *mut f32, _: usize) -> Sent;
+        pub fn tetra_build_normal(train: u32, blk1: *const u8, _: usize, bbk: *const u8, _: usize, blk2: *const u8, _: usize, bits: *mut u8, _: usize) -> u32;
+        pub fn tetra_judge(kind: u32, bits: *const u8, _: usize, answer: *mut u8, _: usize) -> u32;
+    }
+}
+
+use library::{Receiver, Sender};
+
+/// What is logged of a slot: its number, its type, and the bits of its burst.
+#[derive(PartialEq)]
+struct Slot(u32, u8, Vec<u8>);
+
+/// The best times of N competitors, which run in turn. Each gives what must be equal.
+fn best<const N: usize, T: PartialEq>(mut run: impl FnMut(usize) -> T) -> [Duration; N] {
+    let mut times = [Duration::MAX; N];
+    for _ in 0..RUNS {
+        let mut first = None;
+        for (i, time) in times.iter_mut().enumerate() {
+            let before = Instant::now();
+            let answer = run(i);
+            *time = before.elapsed().min(*time);
+            match &first {
+                None => first = Some(answer),
+                Some(first) => assert!(answer == *first, "competitor {i} answers otherwise"),
+            }
+        }
+    }
+    times
+}
+
+/// Samples, re and im in turn.
+fn downlink(noise: f32, gain: f32) -> Vec<f32> {
+    let mut random = Random::new(7);
+    let mut channel = Channel::new(Carrier::new(&mut random, downlink_burst), gain);
+    channel.noise = noise;
+    (0..SAMPLES)
+        .flat_map(|_| {
+            let sample = channel.next(&mut random);
+            [sample.re, sample.im]
+        })
+        .collect()
+}
+
+fn original_takes(receiver: &mut Demodulator, slots: &mut Vec<Slot>) {
+    if let Some(slot) = receiver.take_demodulated_slot() {
+        slots.push(Slot(slot.time.to_int() as u32, slot.slot.train_type as u8, slot.slot.bits.to_vec()));
+    }
+}
+
+fn original_hears(receiver: &mut Demodulator, block: &[f32], first: usize, slots: &mut Vec<Slot>) {
+    for (i, sample) in block.chunks_exact(2).enumerate() {
+        let sample = ComplexSample { re: sample[0], im: sample[1] };
+        receiver.sample(black_box(sample), (first + i) as i64);
+        original_takes(receiver, slots);
+    }
+}
+
+fn take(receiver: Receiver, slots: &mut Vec<Slot>) -> Receiver {
+    let (mut slot, mut half1, mut half2) = ([0; 510], [0; 254], [0; 254]);
+    let lent = (slot.as_mut_ptr(), half1.as_mut_ptr(), half2.as_mut_ptr());
+    // Each pointer goes with its array's length, here and below.
+    let taken = unsafe { library::tetra_take(receiver, lent.0, 510, lent.1, 254, lent.2, 254) };
+    let view = taken.views[0];
+    slots.push(Slot(taken.number, view.train_type, slot[..view.burst_len].to_vec()));
+    taken.receiver
+}
+
+fn hears(mut receiver: Receiver, mut block: &[f32], mut first: usize, slots: &mut Vec<Slot>) -> Receiver {
+    while !block.is_empty() {
+        let fed = unsafe { library::tetra_feed(receiver, block.as_ptr(), block.len(), first as i64) };
+        receiver = fed.receiver;
+        block = &block[2 * fed.taken..];
+        first += fed.taken;
+        if fed.slot {
+            receiver = take(receiver, slots);
+        }
+    }
+    receiver
+}
+
+fn new_receiver() -> Receiver {
+    unsafe { library::tetra_receiver_new(1) }
+}
+
+fn bench_receivers(names: [&str; 2], air: &[f32], carriers: usize) {
+    let times = best(|i| {
+        let mut slots = Vec::new();
+        if i == 0 {
+            let mut receivers: Vec<_> = (0..carriers).map(|_| Demodulator::new(Mode::DlUnsynchronized)).collect();
+            for (n, block) in air.chunks(2 * SLOT).enumerate() {
+                for receiver in &mut receivers {
+                    original_hears(receiver, block, n * SLOT, &mut slots);
+                }
+            }
+        } else {
+            let mut receivers = vec![new_receiver(); carriers];
+            for (n, block) in air.chunks(2 * SLOT).enumerate() {
+                for receiver in &mut receivers {
+                    *receiver = hears(*receiver, block, n * SLOT, &mut slots);
+                }
+            }
+        }
+        slots
+    });
+    print(names, times, carriers * air.len() / 2);
+}
+
+fn bench_single_samples(air: &[f32]) {
+    let names = ["receiver, locked, a few slots: the original", "receiver, locked, one sample a call"];
+    let times = best(|i| {
+        let mut slots = Vec::new();
+        if i == 0 {
+            original_hears(&mut Demodulator::new(Mode::DlUnsynchronized), air, 0, &mut slots);
+            return slots;
+        }
+        let mut receiver = new_receiver();
+        for (n, sample) in air.chunks_exact(2).enumerate() {
+            let next = unsafe { library::tetra_sample(receiver, sample[0], sample[1], n as i64) };
+            receiver = next.receiver;
+            if receiver.slot_waits {
+                receiver = take(receiver, &mut slots);
+            }
+        }
+        slots
+    });
+    print(names, times, air.len() / 2);
+}
+
+fn bits_of_slots() -> Vec<[u8; 510]> {
+    let mut random = Random::new(11);
+    (0..SLOTS).map(|_| downlink_burst(&mut random)).collect()
+}
+
+fn original_sends(slots: &[[u8; 510]]) -> Vec<u32> {
+    let mut sender = Modulator::new(modulator::Mode::Dl);
+    let mut out = Vec::with_capacity(2 * SAMPLES);
+    for (n, bits) in slots.iter().enumerate() {
+        let slot = TxSlotBits { time: TdmaTime::from_int(n as i32), slot: Some(bits) };
+        while let Ok(sample) = sender.sample((out.len() / 2) as i64, &slot) {
+            out.extend([sample.re.to_bits(), sample.im.to_bits()]);
+        }
+    }
+    out
+}
+
+fn sends(slots: &[[u8; 510]]) -> Vec<u32> {
+    let mut sender: Sender = unsafe { library::tetra_sender_new() };
+    let mut out = Vec::with_capacity(2 * SAMPLES);
+    let mut block = [0.0f32; 2 * SLOT];
+    for (n, bits) in slots.iter().enumerate() {
+        let first = (out.len() / 2) as i64;
+        let sent = unsafe { library::tetra_send(sender, first, n as u32, 1, bits.as_ptr(), 510, block.as_mut_ptr(), block.len()) };
+        sender = sent.sender;
+        out.extend(block[..2 * sent.count].iter().map(|part| part.to_bits()));
+    }
+    out
+}
+
+fn sends_single(slots: &[[u8; 510]]) -> Vec<u32> {
+    let mut sender: Sender = unsafe { library::tetra_sender_new() };
+    let mut out = Vec::with_capacity(2 * SAMPLES);
+    for (n, bits) in slots.iter().enumerate() {
+        loop {
+            let counter = (out.len() / 2) as i64;
+            let sent = unsafe { library::tetra_send_sample(sender, counter, n as u32, 1, bits.as_ptr(), 510) };
+            if sent.refusal != 0 {
+                break;
+            }
+            sender = sent.sender;
+            out.extend([sent.re.to_bits(), sent.im.to_bits()]);
+        }
+    }
+    out
+}
+
+fn bench_senders() {
+    let names = [
+        "sender: the original's `sample`",
+        "sender: this library, one sample a call",
+        "sender: this library, 1020 samples a call",
+    ];
+    let slots = bits_of_slots();
+    let times = best(|i| [original_sends, sends_single, sends][i](black_box(&slots)));
+    print(names, times, SAMPLES);
+}
+
+fn bench_builders() {
+    let names = ["builder, a normal burst: the original", "builder, a normal burst: this library"];
+    let mut random = Random::new(13);
+    let blocks: Vec<_> = (0..SLOTS).map(|_| (random.bits(216), random.bits(30), random.bits(216))).collect();
+    let times = best(|i| {
+        let mut ones = 0;
+        for (blk1, bbk, blk2) in black_box(&blocks) {
+            // The four adjustment bits differ on purpose, so they are left out of what must be equal.
+            let mut burst = [0u8; 510];
+            if i == 0 {
+                let blocks = (blk1[..].try_into().unwrap(), bbk[..].try_into().unwrap(), blk2[..].try_into().unwrap());
+                burst = slotter::build_ndb(compare::TrainingSequence::NormalTrainSeq1, blocks.0, blocks.1, blocks.2);
+            } else {
+                let lent = burst.as_mut_ptr();
+                unsafe { library::tetra_build_normal(1, blk1.as_ptr(), 216, bbk.as_ptr(), 30, blk2.as_ptr(), 216, lent, 510) };
+            }
+            ones += burst[14..498].iter().map(|&bit| bit as usize).sum::<usize>();
+        }
+        ones
+    });
+    print(names, times, SLOTS);
+}
+
+fn bench_finders() {
+    let names = ["finder, an uplink window: the original", "finder, an uplink window: this library"];
+    let windows = bits_of_slots();
+    let times = best(|i| {
+        let mut types = Vec::new();
+        for window in black_box(&windows) {
+            if i == 0 {
+                types.push(demodulator_private::judge(1, window).train_type as u8);
+            } else {
+                let mut answer = [0; 6];
+                unsafe { library::tetra_judge(1, window.as_ptr(), 510, answer.as_mut_ptr(), 6) };
+                types.push(answer[0]);
+            }
+        }
+        types
+    });
+    print(names, times, SLOTS);
+}
+
+pub fn bench() {
+    let air = downlink(0.1, 1.0);
+    let noise = downlink(0.3, 0.0);
+    let few = &air[..2 * FEW];
+    bench_receivers(["receiver, searching: the original's `sample`", "receiver, searching: this library, 1020 a call"], &noise, 1);
+    bench_receivers(["receiver, locked: the original's `sample`", "receiver, locked: this library, 1020 a call"], &air, 1);
+    bench_receivers(["receivers, 8 locked: the original's `sample`", "receivers, 8 locked: this library, 1020 a call"], &air[..SAMPLES / 4], CARRIERS);
+    bench_single_samples(few);
+    bench_senders();
+    bench_builders();
+    bench_finders();
+}
