@@ -110,11 +110,11 @@ samples-count n re im h k =
     let v = length-take-le n im k in
     samples-long (take n re) (take n im) (u ∙ sym v) ∙ u
 
-pub whole-block : (re im outRe outIm : List Float) → length re ≡ length im → length re ≤ 256 → length outRe ≡ 256 → length outIm ≡ 256 → blockOf re im outRe outIm ≡ samplesOf re im
+pub whole-block : (re im outRe outIm : List Float) → length re ≡ length im → length re ≤ 1024 → length outRe ≡ 1024 → length outIm ≡ 1024 → blockOf re im outRe outIm ≡ samplesOf re im
 unfolding blockOf
 whole-block re im outRe outIm e l a b =
-    let m : min 256 (min (length outRe) (length outIm)) ≡ 256 = omega arith in
-    rw m (take-all 256 (samplesOf re im) (omega (arith, samples-long re im e)))
+    let m : min 1024 (min (length outRe) (length outIm)) ≡ 1024 = omega arith in
+    rw m (take-all 1024 (samplesOf re im) (omega (arith, samples-long re im e)))
 
 outs-long : (line xs : List ComplexSample) → length (outsOf line xs) ≡ length xs
 unfolding outsOf

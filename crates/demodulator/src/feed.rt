@@ -40,8 +40,8 @@ pub struct Fed {
 
 // The parts of len samples, and zeros behind them.
 struct Parts {
-    pub re: [f32; 256],
-    pub im: [f32; 256],
+    pub re: [f32; 1024],
+    pub im: [f32; 1024],
     pub len: usize,
 }
 
@@ -87,14 +87,14 @@ fn least(a: usize, b: usize) -> usize
 // The parts of samples from the one numbered `at` on, at most so many, up to one that is too large.
 fn parts_of(samples: &[f32], at: usize, most: usize) -> Parts
     requires { ⌜ at ≤ length (now samples) / 2 ⌝ }
-    ensures few { λ r. ⌜ (r .len ≤ most) × (r .len ≤ 256) × (at + r .len ≤ length (now (samples .entry)) / 2) ⌝ }
+    ensures few { λ r. ⌜ (r .len ≤ most) × (r .len ≤ 1024) × (at + r .len ≤ length (now (samples .entry)) / 2) ⌝ }
     ensures fine { λ r. ⌜ anyBeyond (samplesIn r) ≡ false ⌝ }
     ensures same { λ r. ⌜ interleaved (drop (2 * at) (now (samples .entry))) ≡ samplesIn r ++ interleaved (drop (2 * (at + r .len)) (now (samples .entry))) ⌝ }
     ensures count { λ r. ⌜ length (samplesIn r) ≡ r .len ⌝ }
 {
-    let room = least(least(most, 256), samples.len() / 2 - at);
-    let mut re = [0.0f32; 256];
-    let mut im = [0.0f32; 256];
+    let room = least(least(most, 1024), samples.len() / 2 - at);
+    let mut re = [0.0f32; 1024];
+    let mut im = [0.0f32; 1024];
     let mut len: usize = 0;
     while len < room {
         let x = samples[2 * (at + len)];
@@ -110,11 +110,11 @@ fn parts_of(samples: &[f32], at: usize, most: usize) -> Parts
 }
 
 // The magnitudes of samples, and zeros behind them.
-fn magnitudes(re: &[f32], im: &[f32]) -> [f32; 256]
-    requires { ⌜ (length (now re) ≡ length (now im)) × (length (now re) ≤ 256) ⌝ }
+fn magnitudes(re: &[f32], im: &[f32]) -> [f32; 1024]
+    requires { ⌜ (length (now re) ≡ length (now im)) × (length (now re) ≤ 1024) ⌝ }
     ensures { λ r. ⌜ take (length (now (re .entry))) r ≡ magnitudesOf (samplesOf (now (re .entry)) (now (im .entry))) ⌝ }
 {
-    let mut abs = [0.0f32; 256];
+    let mut abs = [0.0f32; 1024];
     for i in 0..re.len() {
         abs[i] = magnitude::magnitude(re[i], im[i]);
     }
@@ -124,14 +124,14 @@ fn magnitudes(re: &[f32], im: &[f32]) -> [f32; 256]
 impl Demodulator {
     // Samples that are only kept: filter, magnitudes and rings, each over the whole block.
     fn keep_all(self, parts: Parts, next: i64) -> Demodulator
-        requires { ⌜ parts .len ≤ 256 ⌝ }
+        requires { ⌜ parts .len ≤ 1024 ⌝ }
         ensures { λ r. ⌜ viewOf r ≡ keepAll (viewOf self) (samplesIn parts) next ⌝ }
     {
         let re = parts.re;
         let im = parts.im;
         let n = parts.len;
-        let mut out_re = [0.0f32; 256];
-        let mut out_im = [0.0f32; 256];
+        let mut out_re = [0.0f32; 1024];
+        let mut out_im = [0.0f32; 1024];
         let line = self.matched_filter;
         let next_line = line.block(&re[..n], &im[..n], &mut out_re, &mut out_im);
         let abs = magnitudes(&out_re[..n], &out_im[..n]);

@@ -126,11 +126,11 @@ take-min n l =
     (λ (h : length l < n). let e : min n (length l) ≡ length l = omega arith in rw (e, take-length l) (sym (take-all n l (omega arith))))
     (le-or-lt n (length l))
 
-pub block-taken : (n : ℕ) (re im outRe outIm : List Float) → n ≡ min (min (length re) (length im)) (min 256 (min (length outRe) (length outIm)))
+pub block-taken : (n : ℕ) (re im outRe outIm : List Float) → n ≡ min (min (length re) (length im)) (min 1024 (min (length outRe) (length outIm)))
     → blockOf re im outRe outIm ≡ samplesOf (take n re) (take n im)
 unfolding blockOf
 block-taken n re im outRe outIm e =
-    let k = min 256 (min (length outRe) (length outIm)) in
+    let k = min 1024 (min (length outRe) (length outIm)) in
     let m : n ≡ min k (length (samplesOf re im)) = omega (arith, length-samples re im) in
     sym (take-min k (samplesOf re im)) ∙ rw (← m) (take-samples n re im)
 
@@ -152,7 +152,7 @@ im-samples (x ∷ xs) (y ∷ ys) e = ap (λ (l : List Float). y ∷ l) (im-sampl
 -- ---- what `block` leaves
 
 module _ (l : FirComplexSym) (re im outRe outIm : List Float) (n : ℕ) (v : length (l .re) ≡ 32) (w : length (l .im) ≡ 32)
-    (e : n ≡ min (min (length re) (length im)) (min 256 (min (length outRe) (length outIm)))) where
+    (e : n ≡ min (min (length re) (length im)) (min 1024 (min (length outRe) (length outIm)))) where
   same-length : length (take n re) ≡ length (take n im)
   same-length = length-take-le n re (omega arith) ∙ sym (length-take-le n im (omega arith))
 

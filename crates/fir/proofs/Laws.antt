@@ -86,10 +86,10 @@ length-outs line [] = refl
 length-outs line (x ∷ xs) = ap suc (length-outs (take 32 (x ∷ line)) xs)
 
 -- a block that fits is taken whole
-pub block-whole : (re im outRe outIm : List Float) → length (samplesOf re im) ≤ min 256 (min (length outRe) (length outIm))
+pub block-whole : (re im outRe outIm : List Float) → length (samplesOf re im) ≤ min 1024 (min (length outRe) (length outIm))
     → blockOf re im outRe outIm ≡ samplesOf re im
 unfolding blockOf
-block-whole re im outRe outIm h = take-all (min 256 (min (length outRe) (length outIm))) (samplesOf re im) h
+block-whole re im outRe outIm h = take-all (min 1024 (min (length outRe) (length outIm))) (samplesOf re im) h
 
 -- ---- the start of a buffer
 

@@ -75,9 +75,9 @@ samplesOf [] im = []
 samplesOf (x ∷ re) [] = []
 samplesOf (x ∷ re) (y ∷ im) = record { re = x; im = y } ∷ samplesOf re im
 
--- the block that is taken of two slices: at most 256 samples, and as many as both buffers have room for
+-- the block that is taken of two slices: at most 1,024 samples, and as many as both buffers have room for
 unfoldable pub blockOf : List Float → List Float → List Float → List Float → List ComplexSample
-blockOf re im outRe outIm = take (min 256 (min (length outRe) (length outIm))) (samplesOf re im)
+blockOf re im outRe outIm = take (min 1024 (min (length outRe) (length outIm))) (samplesOf re im)
 
 -- a buffer with xs at its start
 unfoldable pub startWith : List Float → List Float → List Float

@@ -106,12 +106,12 @@ fn shifted(line: &[f32], x: f32) -> [f32; 32]
 
 // One part of a block: writes its outputs, and returns that part of the line after it.
 fn block_part(line: &[f32], block: &[f32], out: &mut [f32]) -> [f32; 32]
-    requires { ⌜ (length (now line) ≡ 32) × ((length (now block) ≤ 256) × (length (now block) ≤ length (now out))) ⌝ }
+    requires { ⌜ (length (now line) ≡ 32) × ((length (now block) ≤ 1024) × (length (now block) ≤ length (now out))) ⌝ }
     ensures { λ r. ⌜ r ≡ drop (length (now (block .entry))) (now (line .entry) ++ now (block .entry)) ⌝ }
     ensures { λ r. ⌜ now (out .exit) ≡ startWith (rowOuts (length (now (block .entry))) (drop 1 (now (line .entry) ++ now (block .entry)))) (now (out .entry)) ⌝ }
 {
     let n = block.len();
-    let mut row = [0.0f32; 288];
+    let mut row = [0.0f32; 1056];
     copy(line, &mut row, 0);
     copy(block, &mut row, 32);
     filter_block(&row[1..n + 32], out);
@@ -147,7 +147,7 @@ impl FirComplexSym {
     }
 
     // A block of samples, oldest first, in one call: the same line and outputs as sample by sample. At most
-    // 256 are taken, and no more than each of the four slices has room for.
+    // 1,024 are taken, and no more than each of the four slices has room for.
     pub fn block(
         self,
         re: &[f32],
@@ -163,7 +163,7 @@ impl FirComplexSym {
     {
         let given = least(re.len(), im.len());
         let room = least(out_re.len(), out_im.len());
-        let n = least(given, least(256, room));
+        let n = least(given, least(1024, room));
         let next_re = block_part(&self.re, &re[..n], out_re);
         let next_im = block_part(&self.im, &im[..n], out_im);
         FirComplexSym {

@@ -195,7 +195,7 @@ samples-parts (x ∷ xs) = ap (λ (l : List ComplexSample). x ∷ l) (samples-pa
 pub block-inputs : (re im outRe outIm : List Float) (xs : List ComplexSample) → re ≡ reOf xs → im ≡ imOf xs → length xs ≤ 256 → length xs ≤ length outRe → length xs ≤ length outIm
     → blockOf re im outRe outIm ≡ xs
 unfolding blockOf
-block-inputs re im outRe outIm xs e f h k l = rw (e, f, samples-parts xs) (take-all (min 256 (min (length outRe) (length outIm))) xs (omega arith))
+block-inputs re im outRe outIm xs e f h k l = rw (e, f, samples-parts xs) (take-all (min 1024 (min (length outRe) (length outIm))) xs (omega arith))
 
 -- ---- what `piece` leaves
 

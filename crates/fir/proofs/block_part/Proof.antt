@@ -67,7 +67,7 @@ returns c =
     let outs = c .before .before .before .before .before .before .before .filter-block in
     let line = a .line .now in
     let block = a .block .now in
-    let z : List Float = replicate 288 zeroF in (
+    let z : List Float = replicate 1056 zeroF in (
       block-line line block z (first .last .1 .0) (second .last .1 .0) (search needs) (first .ensures) (second .ensures) (c .before .copy3 .last .1 .0) (c .before .copy3 .ensures),
       block-outs line block z (first .last .1 .0) (second .last .1 .0) (search needs) (first .ensures) (second .ensures) (a .out .now) (outs .last .1 .0) (search needs) (outs .ensures),
     )

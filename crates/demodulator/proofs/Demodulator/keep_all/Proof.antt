@@ -15,7 +15,7 @@ use Rattle.demodulator.proofs.Demodulator.keep_all.Statement.{statement
 use Rattle.demodulator.proofs.Demodulator.keep_all.Tie as tie
 
 -- the rows' lengths, told where nothing else is known yet
-rows-long : (c : tie.Start) → (length (c .args .parts .re) ≡ 256) × (length (c .args .parts .im) ≡ 256)
+rows-long : (c : tie.Start) → (length (c .args .parts .re) ≡ 1024) × (length (c .args .parts .im) ≡ 1024)
 rows-long c = search needs
 
 array-share-prefix-re : tie.Need-array-share-prefix-re
@@ -45,13 +45,13 @@ block-requires c κs = search needs
 
 -- what the block makes of the line, and what it writes
 block-is : (c : tie.After-block) → let a = c .before .before .before .before .before .before .before .before .args in let n = a .parts .len in
-    blockOf (take n (a .parts .re)) (take n (a .parts .im)) (replicate 256 zeroF) (replicate 256 zeroF) ≡ samplesOf (take n (a .parts .re)) (take n (a .parts .im))
+    blockOf (take n (a .parts .re)) (take n (a .parts .im)) (replicate 1024 zeroF) (replicate 1024 zeroF) ≡ samplesOf (take n (a .parts .re)) (take n (a .parts .im))
 block-is c =
     let s = c .before .before .before .before .before .before .before .before in
     let n = s .args .parts .len in
     let u : length (take n (s .args .parts .re)) ≡ n = length-take-le n (s .args .parts .re) (omega (arith, rows-long s, s .pre)) in
     let v : length (take n (s .args .parts .im)) ≡ n = length-take-le n (s .args .parts .im) (omega (arith, rows-long s, s .pre)) in
-    whole-block (take n (s .args .parts .re)) (take n (s .args .parts .im)) (replicate 256 zeroF) (replicate 256 zeroF) (omega arith) (omega (arith, s .pre)) (length-replicate 256 zeroF) (length-replicate 256 zeroF)
+    whole-block (take n (s .args .parts .re)) (take n (s .args .parts .im)) (replicate 1024 zeroF) (replicate 1024 zeroF) (omega arith) (omega (arith, s .pre)) (length-replicate 1024 zeroF) (length-replicate 1024 zeroF)
 
 line-after : (c : tie.After-block) → let a = c .before .before .before .before .before .before .before .before .args in let n = a .parts .len in
     lineOf (c .block .result) ≡ lineAfter (lineOf (a .self .«matched_filter»)) (samplesOf (take n (a .parts .re)) (take n (a .parts .im)))
@@ -64,7 +64,7 @@ outs-re c =
     let n = s .args .parts .len in
     let u : length (take n (s .args .parts .re)) ≡ n = length-take-le n (s .args .parts .re) (omega (arith, rows-long s, s .pre)) in
     let v : length (take n (s .args .parts .im)) ≡ n = length-take-le n (s .args .parts .im) (omega (arith, rows-long s, s .pre)) in
-    re-out (lineOf (s .args .self .«matched_filter»)) (take n (s .args .parts .re)) (take n (s .args .parts .im)) n u v (replicate 256 zeroF) _ (rw (block-is c) at (c .block .ensures .1 .0))
+    re-out (lineOf (s .args .self .«matched_filter»)) (take n (s .args .parts .re)) (take n (s .args .parts .im)) n u v (replicate 1024 zeroF) _ (rw (block-is c) at (c .block .ensures .1 .0))
 
 outs-im : (c : tie.After-block) → let a = c .before .before .before .before .before .before .before .before .args in let n = a .parts .len in
     take n (c .block .last .1 .1 .1 .1 .0) ≡ imOf (outsOf (lineOf (a .self .«matched_filter»)) (samplesOf (take n (a .parts .re)) (take n (a .parts .im))))
@@ -73,7 +73,7 @@ outs-im c =
     let n = s .args .parts .len in
     let u : length (take n (s .args .parts .re)) ≡ n = length-take-le n (s .args .parts .re) (omega (arith, rows-long s, s .pre)) in
     let v : length (take n (s .args .parts .im)) ≡ n = length-take-le n (s .args .parts .im) (omega (arith, rows-long s, s .pre)) in
-    im-out (lineOf (s .args .self .«matched_filter»)) (take n (s .args .parts .re)) (take n (s .args .parts .im)) n u v (replicate 256 zeroF) _ (rw (block-is c) at (c .block .ensures .1 .1))
+    im-out (lineOf (s .args .self .«matched_filter»)) (take n (s .args .parts .re)) (take n (s .args .parts .im)) n u v (replicate 1024 zeroF) _ (rw (block-is c) at (c .block .ensures .1 .1))
 
 re-long : (c : tie.After-block) → let a = c .before .before .before .before .before .before .before .before .args in length (take (a .parts .len) (c .block .last .1 .1 .1 .0)) ≡ a .parts .len
 re-long c =

@@ -12,7 +12,7 @@ use Rattle.demodulator.proofs.feed.magnitudes.Statement.{statement}
 use Rattle.demodulator.proofs.feed.magnitudes.Tie as tie
 
 abbrev Inv-loop : tie.InvT-loop
-Inv-loop re im abs₀ i₀ i-end abs i = (i ≤ length re) × (i-end ≡ length re) × (length abs ≡ 256) × (take i abs ≡ magnitudesOf (samplesOf (take i re) (take i im)))
+Inv-loop re im abs₀ i₀ i-end abs i = (i ≤ length re) × (i-end ≡ length re) × (length abs ≡ 1024) × (take i abs ≡ magnitudesOf (samplesOf (take i re) (take i im)))
 
 abbrev μ-loop : tie.MeasureT-loop
 μ-loop re im abs₀ i₀ i-end abs i = length re - i

@@ -18,7 +18,7 @@ lengths c = search needs
 
 -- how many samples are taken
 count : (c : tie.After-least4) → let a = c .before .before .before .before .before .before .before .before .args in
-    c .least4 .result ≡ min (min (length (a .re .now)) (length (a .im .now))) (min 256 (min (length (a .out-re .now)) (length (a .out-im .now))))
+    c .least4 .result ≡ min (min (length (a .re .now)) (length (a .im .now))) (min 1024 (min (length (a .out-re .now)) (length (a .out-im .now))))
 count c = omega arith
 
 least-requires : tie.Need-least-requires
