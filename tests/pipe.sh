@@ -16,16 +16,6 @@ told() {
     cmp -s "$work/err" "$work/want" || fail "$1: told '$(cat "$work/err")'"
 }
 
-# The blocks' bits of each received burst, as tetra_tx takes them: cut out of the 510 bits where the burst has them.
-blocks() {
-    awk '{
-        split($2, type, "="); split($4, bits, "="); b = bits[2]
-        if (type[2] == "none") print "empty"
-        else if (type[2] == "sync") print "sync " substr(b, 95, 120) substr(b, 253, 246)
-        else print type[2] " " substr(b, 15, 230) substr(b, 267, 232)
-    }'
-}
-
 "$tx" <examples/bursts.txt >"$work/sent" 2>"$work/err" || fail "tetra_tx"
 told "tetra_tx" ''
 "$rx" <"$work/sent" >"$work/lines" 2>"$work/err" || fail "tetra_rx"
@@ -33,7 +23,7 @@ told "tetra_rx" 'tetra_rx: locked at sample 2055\ntetra_rx: 13244 samples, 11 sl
 
 # The first line is the empty slot before the first burst that is found.
 grep -v '^#' examples/bursts.txt | tail -n +2 >"$work/want"
-blocks <"$work/lines" | cmp -s - "$work/want" || fail "the bits received are not those sent"
+awk -f tests/blocks.awk "$work/lines" | cmp -s - "$work/want" || fail "the bits received are not those sent"
 cut -d ' ' -f 1 "$work/lines" | tr '\n' ' ' >"$work/numbers"
 [ "$(cat "$work/numbers")" = 'slot=1 slot=2 slot=3 slot=4 slot=5 slot=6 slot=7 slot=8 slot=9 slot=10 slot=11 ' ] || fail "slot numbers $(cat "$work/numbers")"
 grep -q 'type=none errors=100 bits=$' "$work/lines" || fail "the slot without a burst"
