@@ -1,10 +1,17 @@
-// The filter in both forms and the magnitude over whole slices, for `make bench` to time from outside.
+// The filter in both forms, the magnitude and the sender's single call over whole slices, for `make bench` to time from outside.
 use dsp_types::ComplexSample;
+use dsp_types::SampleCount;
+use dsp_types::TdmaTime;
 use fir::FirComplexSym;
+use modulator::Answer;
+use modulator::DqpskMapper;
+use modulator::Modulator;
 ghost use mathlib.Core.Path.{_≡_};
-ghost use Prim.Native.Nat.{_+_, _<_, _≤_, min};
+ghost use Prim.Native.Nat.{_+_, _/_, _<_, _≤_, min};
+ghost use lib.ListN.{length};
 ghost use Rattle.fir.specs.Fir.{startWith, reOf, imOf};
-ghost use Rattle.bench_signal.specs.Bench.{leastOf, roomOf, filteredOf, magnitudesOf};
+ghost use Rattle.modulator.specs.Blocks.{partsOf};
+ghost use Rattle.bench_signal.specs.Bench.{leastOf, roomOf, filteredOf, magnitudesOf, sentOf};
 
 fn least(a: usize, b: usize) -> usize
     ensures { λ r. ⌜ r ≡ min a b ⌝ }
@@ -82,4 +89,33 @@ pub extern "C" fn bench_magnitude(re: &[f32], im: &[f32], out: &mut [f32])
     for i in 0..n {
         out[i] = magnitude::magnitude(re[i], im[i]);
     }
+}
+
+// Slot 0 from a new sender, one call a sample: as many samples as there is room for, re and im in turn, or up to the first
+// that is refused. Returns how many.
+#[no_mangle]
+pub extern "C" fn bench_send_single(bits: &[u8], out: &mut [f32]) -> usize
+    ensures { λ r. ⌜
+        (let outs = sentOf (now (bits .entry)) (length (now (out .entry)) / 2) in
+        (r ≡ length outs) × (now (out .exit) ≡ startWith (partsOf outs) (now (out .entry)))) ⌝ }
+{
+    let count = out.len() / 2;
+    let mut modulator = Modulator::new();
+    let mut mapper = DqpskMapper::new();
+    let mut n: usize = 0;
+    while n < count {
+        let next = modulator.step(mapper, SampleCount(n as i64), TdmaTime(0), true, bits);
+        let answer = next.answer;
+        match answer {
+            Answer::Sample { re, im } => {
+                out[2 * n] = re;
+                out[2 * n + 1] = im;
+            }
+            Answer::Refused(_) => return n,
+        }
+        modulator = next.modulator;
+        mapper = next.mapper;
+        n += 1;
+    }
+    n
 }

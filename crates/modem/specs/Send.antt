@@ -3,7 +3,6 @@ use Prim.Native.Nat.{ℕ, zero, suc}
 use mathlib.Core.Bool.{Bool, true, false, not}
 use mathlib.Core.List.{List, [], _∷_}
 use lib.Dec.{eqb}
-use lib.ListN.{replicate}
 use Rattle.dsp_types.specs.declared.ComplexSample.{ComplexSample}
 use Rattle.dsp_types.specs.Samples.{silence}
 use Rattle.modulator.specs.Sender.{Told, Sender, senderOf}
@@ -16,10 +15,6 @@ isGiven n = not (eqb n 0)
 -- the sender that a C program holds
 unfoldable pub senderIn : TetraSender → Sender
 senderIn s = senderOf (s .modulator) (s .mapper)
-
--- a new one: silence so far, at phase 0
-unfoldable pub newSender : Sender
-newSender = record { line = replicate 32 silence; phase = 0 }
 
 -- the first sample of a list; silence where it has none
 unfoldable pub firstOf : List ComplexSample → ComplexSample

@@ -7,9 +7,9 @@ use modulator::Modulator;
 ghost use mathlib.Core.Path.{_≡_};
 ghost use Prim.Native.Nat.{_/_};
 ghost use lib.ListN.{length};
-ghost use Rattle.modulator.specs.Sender.{dueOf, told, senderOf, tells, after};
+ghost use Rattle.modulator.specs.Sender.{dueOf, told, newSender, tells, after};
 ghost use Rattle.modulator.specs.Blocks.{dueAfter, sentBlock, Wrote};
-ghost use Rattle.modem.specs.Send.{isGiven, senderIn, newSender, sampleTold};
+ghost use Rattle.modem.specs.Send.{isGiven, senderIn, sampleTold};
 
 #[repr(C)]
 pub struct TetraSender {

@@ -53,31 +53,41 @@ module _ (due : ℕ → Due) (count p : ℕ) where
 
 -- ---- samples written in turn
 
+-- one sample more in a row
+pub row-add : (n : ℕ) (x y : Float) (row rest all : List Float) → 2 * n + 1 < length row → take (2 * n) row ++ (x ∷ y ∷ rest) ≡ all
+    → take (2 * (n + 1)) (set (set row (2 * n) x) (2 * n + 1) y) ++ rest ≡ all
+row-add n x y row rest all l inv =
+    let m : 2 * (n + 1) ≡ suc (suc (2 * n)) = omega arith in
+    rw (m, add-one (2 * n), take-suc-set (set row (2 * n) x) (suc (2 * n)) y (rw (length-set row (2 * n) x) (omega arith)), take-suc-set row (2 * n) x (omega arith))
+    (append-snoc (take (2 * n) row ++ (x ∷ [])) y rest ∙ append-snoc (take (2 * n) row) x (y ∷ rest) ∙ inv)
+
+-- ... and behind it
+pub rest-turn : (n : ℕ) (row row₀ : List Float) (x y : Float) → drop (2 * n) row ≡ drop (2 * n) row₀
+    → drop (2 * (n + 1)) (set (set row (2 * n) x) (2 * n + 1) y) ≡ drop (2 * (n + 1)) row₀
+rest-turn n row row₀ x y inv =
+    let m : 2 * (n + 1) ≡ 2 * n + 2 = omega arith in
+    drop-set-lt (2 * (n + 1)) (set row (2 * n) x) (2 * n + 1) y (omega arith)
+    ∙ drop-set-lt (2 * (n + 1)) row (2 * n) x (omega arith)
+    ∙ rw (m, ← drop-drop 2 (2 * n) row, ← drop-drop 2 (2 * n) row₀) (ap (drop 2) inv)
+
+-- all of them
+pub row-whole : (n : ℕ) (row row₀ all : List Float) → 2 * n ≤ length row → take (2 * n) row ++ [] ≡ all → drop (2 * n) row ≡ drop (2 * n) row₀ → row ≡ startWith all row₀
+unfolding startWith
+row-whole n row row₀ all l inv rest =
+    let e : take (2 * n) row ≡ all = sym (append-nil (take (2 * n) row)) ∙ inv in
+    let c : length all ≡ 2 * n = ap length (sym e) ∙ length-take-le (2 * n) row l in
+    sym (take-append-drop (2 * n) row) ∙ rw c (λ i. e i ++ rest i)
+
 module _ (re im : List Float) where
   pub row-turn : (n : ℕ) (row all : List Float) → n < length re → n < length im → 2 * n + 1 < length row
       → take (2 * n) row ++ partsOf (samplesOf (drop n re) (drop n im)) ≡ all
       → take (2 * (n + 1)) (set (set row (2 * n) (getD re n nan)) (2 * n + 1) (getD im n nan)) ++ partsOf (samplesOf (drop (n + 1) re) (drop (n + 1) im)) ≡ all
   unfolding samplesOf partsOf
   row-turn n row all h k l inv =
-      let m : 2 * (n + 1) ≡ suc (suc (2 * n)) = omega arith in
-      let x = getD re n nan in
-      let y = getD im n nan in
-      let rest = partsOf (samplesOf (drop (suc n) re) (drop (suc n) im)) in
-      rw (m, add-one n, add-one (2 * n), take-suc-set (set row (2 * n) x) (suc (2 * n)) y (rw (length-set row (2 * n) x) (omega arith)), take-suc-set row (2 * n) x (omega arith))
-      (append-snoc (take (2 * n) row ++ (x ∷ [])) y rest ∙ append-snoc (take (2 * n) row) x (y ∷ rest) ∙ rw (drop-cons re n nan h, drop-cons im n nan k) at inv)
-
-  pub rest-turn : (n : ℕ) (row row₀ : List Float) (x y : Float) → drop (2 * n) row ≡ drop (2 * n) row₀
-      → drop (2 * (n + 1)) (set (set row (2 * n) x) (2 * n + 1) y) ≡ drop (2 * (n + 1)) row₀
-  rest-turn n row row₀ x y inv =
-      let m : 2 * (n + 1) ≡ 2 * n + 2 = omega arith in
-      drop-set-lt (2 * (n + 1)) (set row (2 * n) x) (2 * n + 1) y (omega arith)
-      ∙ drop-set-lt (2 * (n + 1)) row (2 * n) x (omega arith)
-      ∙ rw (m, ← drop-drop 2 (2 * n) row, ← drop-drop 2 (2 * n) row₀) (ap (drop 2) inv)
+      rw (add-one n)
+      (rw (add-one n) at (row-add n (getD re n nan) (getD im n nan) row (partsOf (samplesOf (drop (suc n) re) (drop (suc n) im))) all l (rw (drop-cons re n nan h, drop-cons im n nan k) at inv)))
 
   pub row-end : (n : ℕ) (row row₀ all : List Float) → length re ≤ n → 2 * n ≤ length row → take (2 * n) row ++ partsOf (samplesOf (drop n re) (drop n im)) ≡ all
       → drop (2 * n) row ≡ drop (2 * n) row₀ → row ≡ startWith all row₀
-  unfolding samplesOf partsOf startWith
-  row-end n row row₀ all h l inv rest =
-      let e : take (2 * n) row ≡ all = sym (append-nil (take (2 * n) row)) ∙ rw (drop-of-length-le re {i = n} h) at inv in
-      let c : length all ≡ 2 * n = ap length (sym e) ∙ length-take-le (2 * n) row l in
-      sym (take-append-drop (2 * n) row) ∙ rw (c) (λ i. e i ++ rest i)
+  unfolding samplesOf partsOf
+  row-end n row row₀ all h l inv rest = row-whole n row row₀ all l (rw (drop-of-length-le re {i = n} h) at inv) rest

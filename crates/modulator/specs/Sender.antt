@@ -5,7 +5,7 @@ use mathlib.Core.Path.{_≡_}
 use mathlib.Core.List.{List, [], _∷_}
 use lib.Dec.{ltb, eqb}
 use lib.IntN.{ℤ, pos, negsuc, _+ℤ_, _-ℤ_}
-use lib.ListN.{getD, length, take}
+use lib.ListN.{getD, length, take, replicate}
 use Rattle.dsp_types.specs.declared.ComplexSample.{ComplexSample}
 use Rattle.dsp_types.specs.Refusals.{accepted, badCounter, badLength, badBit, badSlot, needMoreData, outOfCount, wrongLength, notBits}
 use Rattle.dsp_types.specs.Samples.{silence, ago}
@@ -104,6 +104,10 @@ pub record Sender : Type 0 where
 -- the sender that a state and a phase record stand for
 unfoldable pub senderOf : Modulator → DqpskMapper → Sender
 senderOf m p = record { line = lineOf (m .filter); phase = p .phase }
+
+-- a new sender: silence so far, at phase 0
+unfoldable pub newSender : Sender
+newSender = record { line = replicate 32 silence; phase = 0 }
 
 -- what the filter is fed
 unfoldable pub fedBy : Sender → Due → ComplexSample

@@ -20,7 +20,7 @@ const FEW: usize = 20 * SLOT;
 const CARRIERS: usize = 8;
 const RUNS: usize = 5;
 
-/// This library's functions (include/tetra_modem.h). A slice passes as a pointer and then its length.
+/// This library's functions (include/tetra_modem.h, crates/bench_signal). A slice passes as a pointer and then its length.
 mod library {
     #[derive(Clone, Copy)]
     #[repr(C)]
@@ -91,6 +91,7 @@ mod library {
         pub fn tetra_sender_new() -> Sender;
         pub fn tetra_send_sample(sender: Sender, counter: i64, slot: u32, has_bits: u32, bits: *const u8, _: usize) -> SentSample;
         pub fn tetra_send(sender: Sender, first: i64, slot: u32, has_bits: u32, bits: *const u8, _: usize, out: *mut f32, _: usize) -> Sent;
+        pub fn bench_send_single(bits: *const u8, _: usize, out: *mut f32, _: usize) -> usize;
         pub fn tetra_build_normal(train: u32, blk1: *const u8, _: usize, bbk: *const u8, _: usize, blk2: *const u8, _: usize, bits: *mut u8, _: usize) -> u32;
         pub fn tetra_judge(kind: u32, bits: *const u8, _: usize, answer: *mut u8, _: usize) -> u32;
     }
@@ -223,57 +224,71 @@ fn bits_of_slots() -> Vec<[u8; 510]> {
     (0..SLOTS).map(|_| downlink_burst(&mut random)).collect()
 }
 
+/// Slot 0 of a new sender, for each of the slots' bits. It has 16 samples less than the others, the filter's delay.
+const SENT: usize = SLOTS * (SLOT - 16);
+
 fn original_sends(slots: &[[u8; 510]]) -> Vec<u32> {
-    let mut sender = Modulator::new(modulator::Mode::Dl);
-    let mut out = Vec::with_capacity(2 * SAMPLES);
-    for (n, bits) in slots.iter().enumerate() {
-        let slot = TxSlotBits { time: TdmaTime::from_int(n as i32), slot: Some(bits) };
-        while let Ok(sample) = sender.sample((out.len() / 2) as i64, &slot) {
+    let mut out = Vec::with_capacity(2 * SENT);
+    for bits in slots {
+        let mut sender = Modulator::new(modulator::Mode::Dl);
+        let slot = TxSlotBits { time: TdmaTime::from_int(0), slot: Some(bits) };
+        let mut counter = 0;
+        while let Ok(sample) = sender.sample(counter, &slot) {
             out.extend([sample.re.to_bits(), sample.im.to_bits()]);
+            counter += 1;
         }
+    }
+    out
+}
+
+/// The sent parts of each slot, where `send` fills a row from the slot's bits and tells how many samples there are.
+fn sent_by(slots: &[[u8; 510]], send: impl Fn(&[u8; 510], &mut [f32; 2 * SLOT]) -> usize) -> Vec<u32> {
+    let mut out = Vec::with_capacity(2 * SENT);
+    let mut row = [0.0f32; 2 * SLOT];
+    for bits in slots {
+        let count = send(bits, &mut row);
+        out.extend(row[..2 * count].iter().map(|part| part.to_bits()));
     }
     out
 }
 
 fn sends(slots: &[[u8; 510]]) -> Vec<u32> {
-    let mut sender: Sender = unsafe { library::tetra_sender_new() };
-    let mut out = Vec::with_capacity(2 * SAMPLES);
-    let mut block = [0.0f32; 2 * SLOT];
-    for (n, bits) in slots.iter().enumerate() {
-        let first = (out.len() / 2) as i64;
-        let sent = unsafe { library::tetra_send(sender, first, n as u32, 1, bits.as_ptr(), 510, block.as_mut_ptr(), block.len()) };
-        sender = sent.sender;
-        out.extend(block[..2 * sent.count].iter().map(|part| part.to_bits()));
-    }
-    out
+    sent_by(slots, |bits, row| unsafe {
+        library::tetra_send(library::tetra_sender_new(), 0, 0, 1, bits.as_ptr(), 510, row.as_mut_ptr(), row.len()).count
+    })
 }
 
 fn sends_single(slots: &[[u8; 510]]) -> Vec<u32> {
-    let mut sender: Sender = unsafe { library::tetra_sender_new() };
-    let mut out = Vec::with_capacity(2 * SAMPLES);
-    for (n, bits) in slots.iter().enumerate() {
+    sent_by(slots, |bits, row| unsafe { library::bench_send_single(bits.as_ptr(), 510, row.as_mut_ptr(), row.len()) })
+}
+
+fn sends_single_from_c(slots: &[[u8; 510]]) -> Vec<u32> {
+    sent_by(slots, |bits, row| {
+        let mut sender: Sender = unsafe { library::tetra_sender_new() };
+        let mut count = 0;
         loop {
-            let counter = (out.len() / 2) as i64;
-            let sent = unsafe { library::tetra_send_sample(sender, counter, n as u32, 1, bits.as_ptr(), 510) };
+            let sent = unsafe { library::tetra_send_sample(sender, count as i64, 0, 1, bits.as_ptr(), 510) };
             if sent.refusal != 0 {
-                break;
+                return count;
             }
             sender = sent.sender;
-            out.extend([sent.re.to_bits(), sent.im.to_bits()]);
+            row[2 * count] = sent.re;
+            row[2 * count + 1] = sent.im;
+            count += 1;
         }
-    }
-    out
+    })
 }
 
 fn bench_senders() {
     let names = [
         "sender: the original's `sample`",
         "sender: this library, one sample a call",
-        "sender: this library, 1020 samples a call",
+        "sender: this library, one sample a call from C",
+        "sender: this library, a slot a call",
     ];
     let slots = bits_of_slots();
-    let times = best(|i| [original_sends, sends_single, sends][i](black_box(&slots)));
-    print(names, times, SAMPLES);
+    let times = best(|i| [original_sends, sends_single, sends_single_from_c, sends][i](black_box(&slots)));
+    print(names, times, SENT);
 }
 
 fn bench_builders() {

@@ -1,7 +1,7 @@
 -- `tetra_sender_new` meets its contract.
 use mathlib.Core.Path.{_≡_}
-use Rattle.modulator.specs.Sender.{senderOf}
-use Rattle.modem.specs.Send.{senderIn, newSender}
+use Rattle.modulator.specs.Sender.{senderOf, newSender}
+use Rattle.modem.specs.Send.{senderIn}
 use borrow.Author.Needs.{needs}
 use Rattle.modem.proofs.sender.tetra_sender_new.Statement.{statement}
 use Rattle.modem.proofs.sender.tetra_sender_new.Tie as tie

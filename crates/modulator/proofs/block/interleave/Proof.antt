@@ -74,7 +74,7 @@ loop-again c =
     let s = c .before .before .before .before in
     let a = s .args in
     let e : length (a .re .now) ≡ length (a .im .now) = s .pre .0 in
-    (search needs, search needs, search needs, row-turn (a .re .now) (a .im .now) (l .n) (l .out) _ (omega arith) (omega arith) (omega arith) (l .inv .3), rest-turn (a .re .now) (a .im .now) (l .n) (l .out) (a .out .now) _ _ (l .inv .4))
+    (search needs, search needs, search needs, row-turn (a .re .now) (a .im .now) (l .n) (l .out) _ (omega arith) (omega arith) (omega arith) (l .inv .3), rest-turn (l .n) (l .out) (a .out .now) _ _ (l .inv .4))
 
 same-length : tie.Need-same-length Inv-loop μ-loop
 same-length c = search needs
