@@ -43,9 +43,17 @@ told "an unknown option" 'tetra_rx: unknown option, see tetra_rx --help\n'
     "$rx" --no-bits >"$work/out" 2>"$work/err"
 cut -d ' ' -f 1 "$work/out" | tr '\n' ' ' | cmp -s - "$work/numbers" || fail "a refused sample"
 told "a refused sample" 'tetra_rx: locked at sample 2055
-tetra_rx: sample 9000 refused=1, taken as missing like all that follow
+tetra_rx: sample 9000 refused=1, taken as missing; more such are counted
 tetra_rx: the last 3 bytes are no whole sample
 tetra_rx: 13244 samples, 11 slots, 1 samples refused, locked\n'
+
+# What cannot be written is told.
+if [ -w /dev/full ]; then
+    "$rx" --quiet <"$work/sent" >/dev/full 2>"$work/err"
+    told "a full disk" 'tetra_rx: the lines cannot be written\n'
+    "$tx" <examples/bursts.txt >/dev/full 2>"$work/err"
+    told "a full disk, sending" 'tetra_tx: the samples cannot be written\n'
+fi
 
 # The hundredth slot in a row without a burst is still printed, and then it searches.
 { cat "$work/sent"; head -c 1000000 /dev/zero; } | "$rx" --no-bits >"$work/out" 2>"$work/err"

@@ -28,7 +28,7 @@ struct Heard {
     listener: Listener,
 }
 
-// A number of the receiver's modes that is told.
+// The text with a downlink receiver's mode behind it.
 fn mode_name(text: Text, mode: u8) -> Text {
     if mode == 2 {
         text.append(b"locked")
@@ -51,7 +51,7 @@ fn tell_refused(number: u32, counter: u64) {
         .decimal(counter)
         .append(b" refused=")
         .decimal(number as u64)
-        .append(b", taken as missing like all that follow\n")
+        .append(b", taken as missing; more such are counted\n")
         .print(STDERR_FILENO);
 }
 
@@ -96,7 +96,11 @@ impl Listener {
                     options.has_bits,
                     bits,
                 );
-                next.is_open = line.print(STDOUT_FILENO);
+                let is_written = line.print(STDOUT_FILENO);
+                if !is_written {
+                    io::write_all(STDERR_FILENO, b"tetra_rx: the lines cannot be written\n");
+                }
+                next.is_open = is_written;
                 next.slots = std::num::wrapping_add_u64(self.slots, 1);
                 next
             }

@@ -55,6 +55,9 @@ impl Sender {
 
     // Sends the next slot: 1,020 samples but for the first, which has 16 less for the filter's delay.
     fn send(self, has_bits: bool, bits: &[u8]) -> Sender {
+        if !self.is_open {
+            return self;
+        }
         if 137_438_953_471 < self.counter {
             return self.closed();
         }

@@ -12,17 +12,20 @@ use Rattle.tetra_tx.proofs.sender.Sender.send.Tie as tie
 few : (c : tie.After-block) → c .block .result .count ≤ 1020
 few c = wrote-within _ _ _ _ _ _ _ _ (c .block .ensures)
 
+returns : tie.Need-returns
+returns c = search needs
+
 closed-requires : tie.Need-closed-requires
 closed-requires c κs = search needs
 
-returns : tie.Need-returns
-returns c = search needs
+returns-2 : tie.Need-returns-2
+returns-2 c = search needs
 
 closed-requires-2 : tie.Need-closed-requires-2
 closed-requires-2 c κs = search needs
 
-returns-2 : tie.Need-returns-2
-returns-2 c = search needs
+returns-3 : tie.Need-returns-3
+returns-3 c = search needs
 
 cast-t12 : tie.Need-cast-t12
 cast-t12 c = search needs
@@ -62,17 +65,18 @@ add-t24 c = omega (arith, few (c .before .before .before .before .before .before
 add-t25 : tie.Need-add-t25
 add-t25 c = search needs
 
-returns-3 : tie.Need-returns-3
-returns-3 c = search needs
+returns-4 : tie.Need-returns-4
+returns-4 c = search needs
 
 pub send-spec : {M : Type 1} → statement M
 send-spec =
     tie.close
     (tie.spec
-    closed-requires
     returns
-    closed-requires-2
+    closed-requires
     returns-2
+    closed-requires-2
+    returns-3
     cast-t12
     slice-aggregate-block
     block-requires
@@ -84,4 +88,4 @@ send-spec =
     write-all-requires
     add-t24
     add-t25
-    returns-3)
+    returns-4)
