@@ -19,7 +19,7 @@ told() {
 "$tx" <examples/bursts.txt >"$work/sent" 2>"$work/err" || fail "tetra_tx"
 told "tetra_tx" ''
 "$rx" <"$work/sent" >"$work/lines" 2>"$work/err" || fail "tetra_rx"
-told "tetra_rx" 'tetra_rx: locked at sample 2055\ntetra_rx: 13244 samples, 11 slots, 0 samples refused, locked\n'
+told "tetra_rx" 'tetra_rx: locked by sample 2055\ntetra_rx: 13244 samples, 11 slots, 0 samples refused, locked\n'
 
 # The first line is the empty slot before the first burst that is found.
 grep -v '^#' examples/bursts.txt | tail -n +2 >"$work/want"
@@ -42,7 +42,7 @@ told "an unknown option" 'tetra_rx: unknown option, see tetra_rx --help\n'
 { head -c 72000 "$work/sent"; printf '\000\000\300\177\000\000\000\000'; tail -c +72009 "$work/sent"; printf 'abc'; } |
     "$rx" --no-bits >"$work/out" 2>"$work/err"
 cut -d ' ' -f 1 "$work/out" | tr '\n' ' ' | cmp -s - "$work/numbers" || fail "a refused sample"
-told "a refused sample" 'tetra_rx: locked at sample 2055
+told "a refused sample" 'tetra_rx: locked by sample 2055
 tetra_rx: sample 9000 refused=1, taken as missing; more such are counted
 tetra_rx: the last 3 bytes are no whole sample
 tetra_rx: 13244 samples, 11 slots, 1 samples refused, locked\n'
@@ -58,7 +58,11 @@ fi
 # The hundredth slot in a row without a burst is still printed, and then it searches.
 { cat "$work/sent"; head -c 1000000 /dev/zero; } | "$rx" --no-bits >"$work/out" 2>"$work/err"
 [ "$(tail -n 1 "$work/out")" = 'slot=111 type=none errors=100' ] || fail "loss: the last line is '$(tail -n 1 "$work/out")'"
-grep -q '^tetra_rx: searching at sample' "$work/err" || fail "loss is not told"
+grep -q '^tetra_rx: searching by sample' "$work/err" || fail "loss is not told"
+
+"$tx" --loud <examples/bursts.txt >"$work/out" 2>"$work/err"
+told "an unknown option, sending" 'tetra_tx: unknown option, see tetra_tx --help\n'
+[ ! -s "$work/out" ] || fail "an unknown option, and still samples"
 
 # A bad line is told, and its slot is sent without a burst.
 printf 'sync 01\r\n\nnormal1 %0461d2\nnormal3\nempty\n' 0 | "$tx" >"$work/out" 2>"$work/err"

@@ -37,9 +37,10 @@ fn mode_name(text: Text, mode: u8) -> Text {
     }
 }
 
+// A feed goes on behind the window that locked, up to the first slot: the change came before this sample.
 fn tell_mode(mode: u8, counter: u64) {
     mode_name(Text::new().append(b"tetra_rx: "), mode)
-        .append(b" at sample ")
+        .append(b" by sample ")
         .decimal(counter)
         .append(b"\n")
         .print(STDERR_FILENO);

@@ -55,6 +55,7 @@ fn read_on(block: &mut [u8], held: usize) -> usize {
     held + io::count(got, &block[held..])
 }
 
+// The same for the whole block, since a part of an array behind a reference cannot be lent.
 fn fill(block: &mut Block, held: usize) -> usize {
     read_on(block, held)
 }

@@ -36,6 +36,20 @@ first.
     );
 }
 
+// Answers a word behind the program's name. Samples go to standard output, so nothing but help that was asked for does.
+fn explain() {
+    let mut word = [0u8; 16];
+    let len = os::arg(1, &mut word);
+    if check::same(&word[..len], b"--help") {
+        help();
+    } else {
+        io::write_all(
+            STDERR_FILENO,
+            b"tetra_tx: unknown option, see tetra_tx --help\n",
+        );
+    }
+}
+
 // Sends the slot of a line of that length.
 fn send_line(sender: Sender, line: &Line, len: usize) -> Sender {
     sender.line(line::trimmed(text::front(line, len)))
@@ -73,7 +87,7 @@ fn send_block(lines: Lines, line: &mut Line, block: &Block, len: usize) -> Lines
 // A proved loop has to end, and nothing says that an input does: it counts down from a number that no run uses up.
 fn main() {
     if os::arg_count() > 1 {
-        help();
+        explain();
         return;
     }
     let mut block = [0u8; 65536];

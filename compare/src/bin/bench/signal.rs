@@ -23,29 +23,10 @@ mod library {
 
     pub type Filter = unsafe extern "C" fn(In, usize, In, usize, Out, usize, Out, usize);
 
+    #[rustfmt::skip]
     extern "C" {
-        #[rustfmt::skip]
-        pub fn bench_filter_single(
-            re: In,
-            _: usize,
-            im: In,
-            _: usize,
-            out_re: Out,
-            _: usize,
-            out_im: Out,
-            _: usize,
-        );
-        #[rustfmt::skip]
-        pub fn bench_filter_block(
-            re: In,
-            _: usize,
-            im: In,
-            _: usize,
-            out_re: Out,
-            _: usize,
-            out_im: Out,
-            _: usize,
-        );
+        pub fn bench_filter_single(re: In, _: usize, im: In, _: usize, out_re: Out, _: usize, out_im: Out, _: usize);
+        pub fn bench_filter_block(re: In, _: usize, im: In, _: usize, out_re: Out, _: usize, out_im: Out, _: usize);
         pub fn bench_magnitude(re: In, _: usize, im: In, _: usize, out: Out, _: usize);
     }
 }

@@ -14,8 +14,8 @@ abbrev μ-loop : tie.MeasureT-loop
 arg-count-requires : tie.Need-arg-count-requires Inv-loop μ-loop
 arg-count-requires c κs = search needs
 
-help-requires : tie.Need-help-requires Inv-loop μ-loop
-help-requires c κs = search needs
+explain-requires : tie.Need-explain-requires Inv-loop μ-loop
+explain-requires c κs = search needs
 
 returns : tie.Need-returns Inv-loop μ-loop
 returns c = search needs
@@ -57,7 +57,7 @@ main-spec =
     Inv-loop
     μ-loop
     arg-count-requires
-    help-requires
+    explain-requires
     returns
     new-requires
     loop-holds
