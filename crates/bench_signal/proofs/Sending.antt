@@ -1,20 +1,18 @@
 -- The sender's single calls, one behind the other, are a block. Assumes nothing.
-use mathlib.Core.Path.{_≡_, refl, sym, ap, subst, _∙_}
+use mathlib.Core.Path.{_≡_, ap}
 use mathlib.Core.Bool.{Bool, true, false, _&&_, cond}
-use mathlib.Core.List.{List, [], _∷_, _++_}
-use Prim.Native.Nat.{ℕ, zero, suc, _+_, _-_, _*_, _%_, _<_, _≤_}
+use mathlib.Core.List.{List, [], _∷_}
+use Prim.Native.Nat.{ℕ, zero, suc, _+_, _-_, _%_, _<_}
 use native.Mathlib.Omega.{arith}
-use native.Mathlib.Numerals.{add-one}
 use lib.Dec.{eqb, ltb, lit<}
 use lib.IntN.{ℤ, pos, negsuc, _+ℤ_}
-use lib.ListN.{length, set, take, drop}
-use lib.Ieee.{Float}
+use lib.ListN.{length}
 use Rattle.dsp_types.specs.declared.ComplexSample.{ComplexSample}
 use Rattle.dsp_types.specs.Ints.{sum, same}
 use Rattle.modulator.specs.declared.due.Due.{Due}
 use Rattle.modulator.specs.declared.due.Due.the-variants.{Refused, Silence, Symbol}
 use Rattle.modulator.specs.Sender.{inputRefusal, placeIn, dueIn, symbolAt, dueAt, dueIf, dueOf, Told, shapedOf, toldOf, Sender, tells, after}
-use Rattle.modulator.specs.Blocks.{joinedIf, joined, sentBlock, dueAfter, partsOf}
+use Rattle.modulator.specs.Blocks.{joinedIf, joined, sentBlock, dueAfter}
 
 -- what is due n samples after counter 0
 pub due-at : (n slot : ℕ) (b : Bool) (bits : List ℕ) → dueOf (pos n) slot b bits ≡ dueAfter (pos 0) slot b bits n

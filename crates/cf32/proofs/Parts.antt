@@ -1,14 +1,14 @@
 -- Patterns of NaN, and one turn of each loop. Assumes nothing.
 use mathlib.Core.Path.{_≡_, refl, sym, ap, subst, _∙_}
-use mathlib.Core.Bool.{Bool, true, false, not}
+use mathlib.Core.Bool.{true, false, not}
 use lib.Dec.{T}
 use mathlib.Core.List.{List, [], _∷_, _++_}
 use Prim.Native.Nat.{ℕ, zero, suc, _+_, _*_, _/_, _%_, _<_, _≤_}
 use native.Mathlib.Omega.{arith}
 use native.Mathlib.Numerals.{add-one}
 use lib.ListN.{getD, length, set, take, drop, length-append}
-use lib.Seq.{take-suc, take-suc-set, drop-cons, drop-set-lt, drop-drop, take-at, drop-at, sets, sets-eq, length-take-le}
-use lib.Ieee.{Float, nan, inf, fin, binary32, isNan, ne, ofBits, toBits, nanBits}
+use lib.Seq.{take-suc, take-suc-set, drop-set-lt, drop-drop, take-at, drop-at, sets-eq, length-take-le}
+use lib.Ieee.{Float, nan, inf, fin, binary32, isNan, ne, ofBits, toBits}
 use lib.Ieee.Bits.{nanBits-is, nanBits-above}
 use lib.Ieee.Compare.{differs-from-itself}
 use borrow.Author.Tests.{lt-ltb}

@@ -1,6 +1,6 @@
 -- The sender's calls, in numbers (01, "The sender"). Definitions only.
-use Prim.Native.Nat.{ℕ, zero, suc}
-use mathlib.Core.Bool.{Bool, true, false, not}
+use Prim.Native.Nat.{ℕ}
+use mathlib.Core.Bool.{Bool, not}
 use mathlib.Core.List.{List, [], _∷_}
 use lib.Dec.{eqb}
 use Rattle.dsp_types.specs.declared.ComplexSample.{ComplexSample}

@@ -1,11 +1,11 @@
 -- A text with bytes behind it, cut to 1,024. Assumes nothing.
-use mathlib.Core.Path.{_≡_, refl, sym, ap, _∙_}
+use mathlib.Core.Path.{_≡_, sym, ap, _∙_}
 use mathlib.Core.Logic.{⊎-elim}
 use mathlib.Core.List.{List, [], _∷_, _++_, map}
-use Prim.Native.Nat.{ℕ, suc, _+_, _-_, _≤_, _<_, min}
+use Prim.Native.Nat.{ℕ, _+_, _-_, _≤_, _<_, min}
 use native.Mathlib.Omega.{arith}
 use native.Mathlib.Numerals.{add-one}
-use lib.ListN.{getD, length, set, take, length-append, length-take, length-map, List·getD-map}
+use lib.ListN.{getD, length, set, take, length-take, length-map, List·getD-map}
 use lib.Seq.{paste, take-paste, take-all, take-suc, take-suc-set, take-take, take-append-le, take-append-add, length-take-le}
 use Rattle.dsp_types.specs.Ring.{le-or-lt}
 use Rattle.text.specs.declared.Text.{Text}

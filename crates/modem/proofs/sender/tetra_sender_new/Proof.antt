@@ -1,5 +1,4 @@
 -- `tetra_sender_new` meets its contract.
-use mathlib.Core.Path.{_≡_}
 use Rattle.modulator.specs.Sender.{senderOf, newSender}
 use Rattle.modem.specs.Send.{senderIn}
 use borrow.Author.Needs.{needs}

@@ -1,5 +1,4 @@
 -- `sender::told_parts` meets its contract, case by case.
-use mathlib.Core.Path.{refl}
 use Rattle.modulator.specs.Sender.{told}
 use Rattle.modem.specs.Send.{firstOf, sampleTold}
 use borrow.Author.Needs.{needs}

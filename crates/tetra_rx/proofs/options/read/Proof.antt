@@ -1,7 +1,5 @@
 -- `options::read` is safe and ends.
-use mathlib.Core.Path.{sym}
 use Prim.Native.Nat.{_-_}
-use lib.Seq.{length-take-le}
 use borrow.Author.Needs.{needs}
 use Rattle.tetra_rx.proofs.options.read.Statement.{statement}
 use Rattle.tetra_rx.proofs.options.read.Tie as tie

@@ -1,5 +1,5 @@
 -- `Text::length` meets its contract: a text has no more bytes than there is room for.
-use mathlib.Core.Path.{_≡_, sym, _∙_}
+use mathlib.Core.Path.{_≡_}
 use native.Mathlib.Omega.{arith}
 use lib.ListN.{length, length-take}
 use Rattle.text.specs.Text.{textOf}

@@ -1,7 +1,6 @@
 -- `Text::new` meets its contract.
 use mathlib.Core.Path.{refl}
 use Rattle.text.specs.Text.{textOf}
-use borrow.Author.Needs.{needs}
 use Rattle.text.proofs.Text.new.Statement.{statement}
 use Rattle.text.proofs.Text.new.Tie as tie
 
