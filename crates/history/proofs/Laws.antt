@@ -3,7 +3,7 @@
 use mathlib.Core.Path.{_≡_, refl, sym, ap, _∙_}
 use mathlib.Core.List.{List, [], _∷_, _++_, map, reverseAux}
 use Prim.Native.Nat.{ℕ, zero, suc, _+_, _-_, _%_, _<_}
-use native.Mathlib.Nat.{mod-lt, mod-eq-of-lt, mod-mod}
+use native.Mathlib.Nat.{mod-lt, mod-eq-of-lt, mod-mod, mod-add-mod}
 use native.Mathlib.Omega.{arith}
 use native.Mathlib.Numerals.{add-one}
 use lib.Dec.{lit<}
@@ -83,12 +83,26 @@ unfolding heldAfter
 after-snoc held [] x = refl
 after-snoc held (y ∷ xs) x = after-snoc (take 2048 (y ∷ held)) xs x
 
--- a turn of the loop of `store`
-pub store-step : (ring held from : List Float) (at n : ℕ) → length ring ≡ 2048 → n < length from → heldIn ring at ≡ heldAfter held (take n from)
-    → heldIn (set ring ((at % 2048 + 1) % 2048) (getD from n nan)) ((at % 2048 + 1) % 2048) ≡ heldAfter held (take (n + 1) from)
-store-step ring held from at n w h e =
-    held-write ring at (getD from n nan) w
-    ∙ rw (add-one n, take-suc from n nan h, e) (sym (after-snoc held (take n from) (getD from n nan)))
+-- the place after n stores and then k
+pub place-after : (m at n k : ℕ) → ((at + n) % m % m + k) % m ≡ (at + (n + k)) % m
+place-after m at n k =
+    let e : at + n + k ≡ at + (n + k) = omega arith in
+    rw (mod-mod (at + n) m, mod-add-mod (at + n) m k, e)
+
+-- the place after n + 1 stores is n behind the next one, where that is within the ring
+place-in-run : (m at n : ℕ) → (at + 1) % m + n < m → (at + (n + 1)) % m ≡ (at + 1) % m + n
+place-in-run m at n k =
+    let e : at + (n + 1) ≡ at + 1 + n = omega arith in
+    rw e (sym (mod-add-mod (at + 1) m n) ∙ mod-eq-of-lt k)
+
+-- a turn of the loop of `store_run`
+pub run-step : (ring held from : List Float) (at n : ℕ) → length ring ≡ 2048 → n < length from → (at % 2048 + 1) % 2048 + n < 2048
+    → heldIn ring ((at % 2048 + n) % 2048) ≡ heldAfter held (take n from)
+    → heldIn (set ring ((at % 2048 + 1) % 2048 + n) (getD from n nan)) ((at % 2048 + (n + 1)) % 2048) ≡ heldAfter held (take (n + 1) from)
+run-step ring held from at n w h k e =
+    rw (← place-in-run 2048 (at % 2048) n k)
+    ((rw (place-after 2048 (at % 2048) n 1) at (held-write ring ((at % 2048 + n) % 2048) (getD from n nan) w))
+    ∙ rw (add-one n, take-suc from n nan h, e) (sym (after-snoc held (take n from) (getD from n nan))))
 
 pub after-append : {A : Type 0} (held xs ys : List A) → heldAfter held (xs ++ ys) ≡ heldAfter (heldAfter held xs) ys
 unfolding heldAfter

@@ -2,7 +2,7 @@
 use dsp_types::ComplexSample;
 ghost use mathlib.Core.Path.{_≡_};
 ghost use mathlib.Core.List.{_∷_};
-ghost use Prim.Native.Nat.{_+_, _%_};
+ghost use Prim.Native.Nat.{_+_, _≤_, _%_, min};
 ghost use lib.ListN.{length, take, replicate};
 ghost use Rattle.dsp_types.specs.Samples.{zeroF, silence, ago};
 ghost use Rattle.history.specs.History.{heldIn, pastOf, absOf, heldAfter};
@@ -29,16 +29,38 @@ pub fn recall(ring: &[f32; 2048], at: usize, delay: usize) -> f32
     ring[(at % 2048 + 2048 - delay % 2048) % 2048]
 }
 
-// `store`, in a slice.
+fn least(a: usize, b: usize) -> usize
+    ensures { λ r. ⌜ r ≡ min a b ⌝ }
+{
+    if a < b { a } else { b }
+}
+
+// `store` of a run that fits before the ring's end: its places follow each other, so that the compiler moves
+// several elements at once.
+fn store_run(ring: &mut [f32], at: usize, from: &[f32]) -> usize
+    requires { ⌜ (length (now ring) ≡ 2048) × ((at % 2048 + 1) % 2048 + length (now from) ≤ 2048) ⌝ }
+    ensures { λ r. ⌜ r ≡ (at % 2048 + length (now (from .entry))) % 2048 ⌝ }
+    ensures { λ r. ⌜ heldIn (now (ring .exit)) r ≡ heldAfter (heldIn (now (ring .entry)) at) (now (from .entry)) ⌝ }
+{
+    let start = next(at);
+    for n in 0..from.len() {
+        ring[start + n] = from[n];
+    }
+    (at % 2048 + from.len()) % 2048
+}
+
+// `store`, in a slice, run by run.
 fn store_in(ring: &mut [f32], at: usize, from: &[f32]) -> usize
     requires { ⌜ length (now ring) ≡ 2048 ⌝ }
     ensures { λ r. ⌜ r ≡ (at % 2048 + length (now (from .entry))) % 2048 ⌝ }
     ensures { λ r. ⌜ heldIn (now (ring .exit)) r ≡ heldAfter (heldIn (now (ring .entry)) at) (now (from .entry)) ⌝ }
 {
     let mut newest = at % 2048;
-    for n in 0..from.len() {
-        newest = next(newest);
-        ring[newest] = from[n];
+    let mut done: usize = 0;
+    while done < from.len() {
+        let run = least(2048 - next(newest), from.len() - done);
+        newest = store_run(ring, newest, &from[done..done + run]);
+        done = done + run;
     }
     newest
 }
