@@ -1,12 +1,14 @@
 -- A receiver as it is read at the door: its numbers are valid ones. Assumes nothing.
 use mathlib.Core.Path.{_≡_, refl, sym, ap, _∙_}
 use mathlib.Core.Bool.{Bool, true, false, cond, _||_}
+use mathlib.Core.List.{List}
 use Prim.Native.Nat.{ℕ, zero, suc, _+_, _-_, _%_, _≤_, _<_, _^_, min}
 use native.Mathlib.Nat.{mod-lt, min-le-left, min-le-right}
 use native.Mathlib.Omega.{arith}
 use lib.Dec.{leb, ltb, lit<, lit≤}
 use lib.IntN.{ℤ, pos, negsuc, _-ℤ_}
 use lib.Signed.{mag, ltZ}
+use lib.Ieee.{Float}
 use borrow.Author.Tests.{leb-true, ltb-false}
 use Rattle.dsp_types.specs.declared.ComplexSample.{ComplexSample}
 use Rattle.dsp_types.specs.Refusals.{beyond, outOfCount}
@@ -16,8 +18,8 @@ use Rattle.dsp_types.specs.Samples.{silence}
 use Rattle.demodulator.specs.Receiver.{Receiver, processSample}
 use Rattle.demodulator.specs.Calls.{validTime, validCount, validClock, valid, sampleRefusal, missing, feedZeros, unless, expecting}
 use Rattle.demodulator.specs.Bounds.{Within, Timed, Counter}
-use Rattle.demodulator.specs.declared.Demodulator.{Demodulator}
-use Rattle.demodulator.specs.View.{viewOf, clockOf, signalOf}
+use Rattle.demodulator.specs.declared.State.{State}
+use Rattle.demodulator.specs.View.{receiverOf}
 use Rattle.demodulator.proofs.Samples.{counter-before}
 use Rattle.demodulator.proofs.Steps.{sample-timed, timed-longer}
 
@@ -107,33 +109,33 @@ zeros-timed (suc k) j r c l h n t =
 
 -- ---- the stored state, one number or more written anew
 
-pub valid-view : (d : Demodulator) (reference ready next : ℤ) (slot misses : ℕ)
-    → reference ≡ validTime 549755813888 (d .«reference_time» .0) → ready ≡ validTime 1099511627775 (d .«slot_ready_time» .0)
-    → next ≡ validCount (d .«next_input_sample_count» .0) → slot ≡ d .«current_slot» .0 % slots → misses ≡ min 100 (d .«slots_since_last_valid_burst»)
-    → viewOf
+pub valid-view : (s : State) (re im abs : List Float) (reference ready next : ℤ) (slot misses : ℕ)
+    → reference ≡ validTime 549755813888 (s .«reference_time» .0) → ready ≡ validTime 1099511627775 (s .«slot_ready_time» .0)
+    → next ≡ validCount (s .«next_input_sample_count» .0) → slot ≡ s .«current_slot» .0 % slots → misses ≡ min 100 (s .«slots_since_last_valid_burst»)
+    → receiverOf
     (record {
-      mode = d .mode;
+      mode = s .mode;
       «reference_time» = record { 0 = reference };
       «slot_ready_time» = record { 0 = ready };
       «current_slot» = record { 0 = slot };
       «next_input_sample_count» = record { 0 = next };
-      «averaged_timing_error» = d .«averaged_timing_error»;
+      «averaged_timing_error» = s .«averaged_timing_error»;
       «slots_since_last_valid_burst» = misses;
-      «demodulated_slot_time» = d .«demodulated_slot_time»;
-      «demodulated_slot_available» = d .«demodulated_slot_available»;
-      «full_slot» = d .«full_slot»;
-      subslot1 = d .subslot1;
-      subslot2 = d .subslot2;
-      «matched_filter» = d .«matched_filter»;
-      «past_re» = d .«past_re»;
-      «past_im» = d .«past_im»;
-      «past_abs» = d .«past_abs»;
-      «past_index» = d .«past_index»;
+      «demodulated_slot_time» = s .«demodulated_slot_time»;
+      «demodulated_slot_available» = s .«demodulated_slot_available»;
+      «full_slot» = s .«full_slot»;
+      subslot1 = s .subslot1;
+      subslot2 = s .subslot2;
+      «matched_filter» = s .«matched_filter»;
+      «past_index» = s .«past_index»;
     })
-    ≡ valid (viewOf d)
-unfolding viewOf clockOf signalOf valid validClock
-valid-view d reference ready next slot misses a b n s m = rw (a, b, n, s, m)
+    re
+    im
+    abs
+    ≡ valid (receiverOf s re im abs)
+unfolding receiverOf valid validClock
+valid-view s re im abs reference ready next slot misses a b n o m = rw (a, b, n, o, m)
 
-pub next-view : (d : Demodulator) (next : ℤ) → viewOf (record { mode = d .mode; «reference_time» = d .«reference_time»; «slot_ready_time» = d .«slot_ready_time»; «current_slot» = d .«current_slot»; «next_input_sample_count» = record { 0 = next }; «averaged_timing_error» = d .«averaged_timing_error»; «slots_since_last_valid_burst» = d .«slots_since_last_valid_burst»; «demodulated_slot_time» = d .«demodulated_slot_time»; «demodulated_slot_available» = d .«demodulated_slot_available»; «full_slot» = d .«full_slot»; subslot1 = d .subslot1; subslot2 = d .subslot2; «matched_filter» = d .«matched_filter»; «past_re» = d .«past_re»; «past_im» = d .«past_im»; «past_abs» = d .«past_abs»; «past_index» = d .«past_index» }) ≡ expecting (viewOf d) next
-unfolding viewOf clockOf signalOf expecting
-next-view d next = refl
+pub next-view : (s : State) (re im abs : List Float) (next : ℤ) → receiverOf (record { mode = s .mode; «reference_time» = s .«reference_time»; «slot_ready_time» = s .«slot_ready_time»; «current_slot» = s .«current_slot»; «next_input_sample_count» = record { 0 = next }; «averaged_timing_error» = s .«averaged_timing_error»; «slots_since_last_valid_burst» = s .«slots_since_last_valid_burst»; «demodulated_slot_time» = s .«demodulated_slot_time»; «demodulated_slot_available» = s .«demodulated_slot_available»; «full_slot» = s .«full_slot»; subslot1 = s .subslot1; subslot2 = s .subslot2; «matched_filter» = s .«matched_filter»; «past_index» = s .«past_index» }) re im abs ≡ expecting (receiverOf s re im abs) next
+unfolding receiverOf expecting
+next-view s re im abs next = refl

@@ -9,6 +9,7 @@ use lib.Seq.{drop-cons}
 use lib.IntN.{ℤ, pos, _+ℤ_}
 use lib.Ieee.{Float, nan}
 use Rattle.dsp_types.specs.declared.ComplexSample.{ComplexSample}
+use Rattle.demodulator.specs.declared.feed.Stop.{Stop}
 use Rattle.demodulator.specs.declared.feed.Stop.the-variants.{End, Slot, Refused}
 use Rattle.demodulator.specs.Receiver.{Receiver}
 use Rattle.demodulator.specs.Calls.{valid, validCount, sampleRefusal, accept, sampleOf}
@@ -52,8 +53,10 @@ none-yet r parts c = go (feedOf r (interleaved parts) c)
     go b = let n : 0 + b .taken ≡ b .taken = omega arith in rw n
 
 -- what a call tells, from the equation of it all
-pub tell : (all b : Block) → all ≡ b → (b .taken ≡ all .taken) × ((b .stop ≡ all .stop) × (b .receiver ≡ all .receiver))
-tell all b e = (sym (ap (λ (x : Block). x .taken) e), (sym (ap (λ (x : Block). x .stop) e), sym (ap (λ (x : Block). x .receiver) e)))
+pub tell : (all b : Block) {taken : ℕ} {stop : Stop} {receiver : Receiver} → all ≡ b → (taken ≡ b .taken) × ((stop ≡ b .stop) × (receiver ≡ b .receiver))
+    → (taken ≡ all .taken) × ((stop ≡ all .stop) × (receiver ≡ all .receiver))
+tell all b e told =
+    (told .0 ∙ sym (ap (λ (x : Block). x .taken) e), (told .1 .0 ∙ sym (ap (λ (x : Block). x .stop) e), told .1 .1 ∙ sym (ap (λ (x : Block). x .receiver) e)))
 
 module _ (all : Block) (k : ℕ) (r : Receiver) (c : ℤ) where
   pub at-end : all ≡ ahead k (feedOf r [] c) → all ≡ record { taken = k; stop = End; receiver = r }

@@ -13,13 +13,13 @@ use Rattle.timing.specs.Tracking.{late, early}
 use Rattle.burst_finder.specs.Search.{findSync}
 use Rattle.demodulator.specs.declared.Mode.{Mode}
 use Rattle.demodulator.specs.declared.Mode.the-variants.{Idle, DlUnsynchronized, Dl, Ul}
-use Rattle.demodulator.specs.declared.Demodulator.{Demodulator}
+use Rattle.demodulator.specs.declared.State.{State}
 use Rattle.demodulator.specs.Signal.{bitsOf}
 use Rattle.demodulator.specs.Receiver.{Receiver, listen, tdiff, far, skipIf, withClock, arrived, closes, closeIf, closeWindow, processSample, processed, processPastSamples, searchWindow, found, notFoundYet, emptied, downlinkWindow, handed, uplinkWindow, uplinkSlot, schedule, trackedLater, trackedSooner, later, sooner, moved, nextSlot}
 use Rattle.demodulator.specs.Calls.{missing, feedZeros, expecting, accept}
 use Rattle.demodulator.specs.Windows.{Kind, Window, searchKind, kindOf, windowIf, windowOf, zerosWindows, acceptWindows}
 use Rattle.demodulator.specs.Feed.{isSlot, handsOver}
-use Rattle.demodulator.specs.View.{viewOf, clockOf, signalOf}
+use Rattle.demodulator.specs.View.{receiverOf}
 use Rattle.demodulator.specs.Bounds.{Timed}
 
 -- whether a slot waits
@@ -183,6 +183,6 @@ told r q x c e =
           ap (λ (v : Receiver). waiting (r .slot .available || v .slot .available) v) f ∙ sym (accepted-waiting (r .slot .available) r x c);
     }
 
-pub waiting-view : (d : Demodulator) (b : Bool) → viewOf (record { mode = d .mode; «reference_time» = d .«reference_time»; «slot_ready_time» = d .«slot_ready_time»; «current_slot» = d .«current_slot»; «next_input_sample_count» = d .«next_input_sample_count»; «averaged_timing_error» = d .«averaged_timing_error»; «slots_since_last_valid_burst» = d .«slots_since_last_valid_burst»; «demodulated_slot_time» = d .«demodulated_slot_time»; «demodulated_slot_available» = b; «full_slot» = d .«full_slot»; subslot1 = d .subslot1; subslot2 = d .subslot2; «matched_filter» = d .«matched_filter»; «past_re» = d .«past_re»; «past_im» = d .«past_im»; «past_abs» = d .«past_abs»; «past_index» = d .«past_index» }) ≡ waiting b (viewOf d)
-unfolding viewOf clockOf signalOf
-waiting-view d b = refl
+pub waiting-view : (s : State) (re im abs : List Float) (b : Bool) → receiverOf (record { mode = s .mode; «reference_time» = s .«reference_time»; «slot_ready_time» = s .«slot_ready_time»; «current_slot» = s .«current_slot»; «next_input_sample_count» = s .«next_input_sample_count»; «averaged_timing_error» = s .«averaged_timing_error»; «slots_since_last_valid_burst» = s .«slots_since_last_valid_burst»; «demodulated_slot_time» = s .«demodulated_slot_time»; «demodulated_slot_available» = b; «full_slot» = s .«full_slot»; subslot1 = s .subslot1; subslot2 = s .subslot2; «matched_filter» = s .«matched_filter»; «past_index» = s .«past_index» }) re im abs ≡ waiting b (receiverOf s re im abs)
+unfolding receiverOf
+waiting-view s re im abs b = refl

@@ -1,7 +1,6 @@
 mod Signed
 mod Samples
 mod Reading
-mod Hearing
 mod Views
 mod Times
 mod Steps
@@ -11,3 +10,4 @@ mod Handing
 mod Feeding
 mod Keeping
 mod Rows
+mod Hearing

@@ -1,15 +1,19 @@
 -- One sample keeps the bounds on the receiver's times, and lets them grow by one. Assumes nothing.
 use mathlib.Core.Path.{_≡_, refl}
 use mathlib.Core.Bool.{Bool, true, false}
+use mathlib.Core.List.{List}
 use Prim.Native.Nat.{ℕ, _+_, _-_, _*_, _≤_, _<_, _^_}
 use native.Mathlib.Omega.{arith}
 use lib.Dec.{lit≤}
 use lib.IntN.{ℤ, pos, negsuc, _+ℤ_, _-ℤ_}
+use lib.Ieee.{Float}
 use Rattle.dsp_types.specs.declared.ComplexSample.{ComplexSample}
 use Rattle.dsp_types.specs.Times.{slotOf, slots}
 use Rattle.dsp_types.specs.Ints.{up, dn}
 use Rattle.demodulator.specs.declared.Mode.{Mode}
+use Rattle.demodulator.specs.declared.State.{State}
 use Rattle.demodulator.specs.Receiver.{Receiver, Clock, setSlot, addSlots, withClock, slotsToSkip, far, tdiff, listen, skipIf, arrived, closes, closeIf, closeWindow, processSample, slotReadyFromBegin}
+use Rattle.demodulator.specs.View.{receiverOf}
 use Rattle.demodulator.specs.Bounds.{Within, Timed, Closing, Counter}
 use Rattle.demodulator.proofs.Signed.{wider, within-pos, within-sum, within-difference, ready-within, slot-number, eqZ-true, counter-37}
 use Rattle.demodulator.proofs.Times.{closed-timed}
@@ -21,6 +25,11 @@ listen-timed r x h = record { reference = h .reference; ready = h .ready; curren
 pub timed-longer : {k : ℕ} (n : ℕ) {r : Receiver} → k ≤ n → Timed k r → Timed n r
 timed-longer n l h =
     record { reference = wider (2 ^ 39 + n) (omega (arith, l)) (h .reference); ready = h .ready; current = h .current; misses = omega (arith, l, h) }
+
+-- the bounds say nothing of the past
+pub timed-past : {k : ℕ} (s : State) (re im abs re₂ im₂ abs₂ : List Float) → Timed k (receiverOf s re im abs) → Timed k (receiverOf s re₂ im₂ abs₂)
+unfolding receiverOf
+timed-past s re im abs re₂ im₂ abs₂ h = record { reference = h .reference; ready = h .ready; current = h .current; misses = h .misses }
 
 -- a slot's window closes less than 2^40 samples from 0
 ready-near : (m : Mode) (z : ℤ) (s : ℕ) → Within (2 ^ 39 + 2000) z → s < slots → Within (2 ^ 40) (z +ℤ pos (s * 1020) +ℤ slotReadyFromBegin m)

@@ -1,7 +1,7 @@
 -- What a window's code leaves in the stored state is, in its view, what the definitions make of a receiver. Assumes nothing.
 use mathlib.Core.Path.{_≡_, refl, _∙_}
 use mathlib.Core.Bool.{true, false}
-use mathlib.Core.List.{[]}
+use mathlib.Core.List.{List, []}
 use Prim.Native.Nat.{ℕ, zero, suc, _+_, _-_, _*_, _≤_, _<_}
 use native.Mathlib.Omega.{arith}
 use native.Mathlib.Numerals.{add-one}
@@ -22,11 +22,11 @@ use Rattle.burst_finder.specs.Slots.{checkSlot, notFound, typeNumber}
 use Rattle.demodulator.specs.declared.Mode.{Mode}
 use Rattle.demodulator.specs.declared.Mode.the-variants.{Idle, DlUnsynchronized, Dl, Ul}
 use Rattle.demodulator.specs.declared.SlotBurstFinder.{SlotBurstFinder}
-use Rattle.demodulator.specs.declared.Demodulator.{Demodulator}
+use Rattle.demodulator.specs.declared.State.{State}
 use Rattle.demodulator.specs.declared.window.Window.{Window}
 use Rattle.demodulator.specs.Signal.{Signal, timingOf, bitsOf}
 use Rattle.demodulator.specs.Receiver.{Lock, HandedSlot, Receiver, setSlot, searched, checked, slotTiming, emptied, found, notFoundYet, searchWindow, lockAfter, modeAfter, handed, downlinkWindow, uplinkSlot, uplinkWindow, processPastSamples, moved, later, sooner, trackedLater, trackedSooner, withClock, searchOn, schedule}
-use Rattle.demodulator.specs.View.{modeOf, finderOf, signalFrom, signalOf, viewOf, Finds, Reads}
+use Rattle.demodulator.specs.View.{modeOf, finderOf, signalFrom, receiverOf, Finds, Reads}
 use Rattle.demodulator.proofs.Times.{found-reference, sync-placed}
 
 -- ---- modes
@@ -59,10 +59,10 @@ mode-lost misses h = rw (le-leb 100 misses h)
 -- ---- a window that is read
 
 -- timing and bits come of the past alone
-pub heard : (s : Demodulator) {d n : ℕ} {w : Window} → Reads (signalFrom [] (s .«past_re») (s .«past_im») (s .«past_abs») (s .«past_index»)) d n w
-    → Reads (viewOf s .signal) d n w
-unfolding viewOf signalOf signalFrom timingOf bitsOf
-heard s h = record { timing = h .timing; bits = h .bits }
+pub heard : (s : State) (re im abs : List Float) {d n : ℕ} {w : Window} → Reads (signalFrom [] re im abs (s .«past_index»)) d n w
+    → Reads (receiverOf s re im abs .signal) d n w
+unfolding receiverOf signalFrom timingOf bitsOf
+heard s re im abs h = record { timing = h .timing; bits = h .bits }
 
 module _ (s : Signal) (d n : ℕ) (w : Window) (read : Reads s d n w) (f : SlotBurstFinder) where
   is-searched : Finds f (take (2 * (n - 1)) (w .bits)) notFound → finderOf f ≡ searched s d n

@@ -17,6 +17,7 @@ use Rattle.demodulator.specs.declared.Mode.{Mode}
 use Rattle.demodulator.specs.declared.Mode.the-variants.{Idle, DlUnsynchronized, Dl, Ul}
 use Rattle.demodulator.specs.declared.SlotBurstFinder.{SlotBurstFinder}
 use Rattle.demodulator.specs.declared.Demodulator.{Demodulator}
+use Rattle.demodulator.specs.declared.State.{State}
 use Rattle.demodulator.specs.declared.window.Window.{Window}
 use Rattle.demodulator.specs.Signal.{Signal, timingOf, bitsOf}
 use Rattle.demodulator.specs.Receiver.{Clock, Lock, Finder, HandedSlot, Receiver}
@@ -73,6 +74,25 @@ viewOf d =
           };
       next = d .«next_input_sample_count» .0;
       signal = signalOf d;
+    }
+
+-- the receiver of a state and of the rings of its past
+unfoldable pub receiverOf : State → List Float → List Float → List Float → Receiver
+receiverOf s re im abs =
+    record {
+      mode = modeOf (s .mode);
+      clock = record { referenceTime = s .«reference_time» .0; slotReadyTime = s .«slot_ready_time» .0; currentSlot = s .«current_slot» .0 };
+      lock = record { timingError = s .«averaged_timing_error»; misses = s .«slots_since_last_valid_burst» };
+      slot =
+          record {
+            available = s .«demodulated_slot_available»;
+            time = s .«demodulated_slot_time» .0;
+            full = finderOf (s .«full_slot»);
+            subslot1 = finderOf (s .subslot1);
+            subslot2 = finderOf (s .subslot2);
+          };
+      next = s .«next_input_sample_count» .0;
+      signal = signalFrom (lineOf (s .«matched_filter»)) re im abs (s .«past_index»);
     }
 
 -- the windows that are read: a whole slot's, and those of its two halves

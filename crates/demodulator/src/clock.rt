@@ -1,5 +1,5 @@
 // Slot timing: which slot is current, and when its window closes.
-use crate::Demodulator;
+use crate::State;
 use crate::sums::is_below;
 use crate::sums::minus;
 use crate::sums::plus;
@@ -7,11 +7,13 @@ use crate::sums::slots_long;
 use dsp_types::SampleCount;
 use dsp_types::TdmaTime;
 ghost use mathlib.Core.Path.{_≡_};
+ghost use mathlib.Core.List.{List, []};
 ghost use Prim.Native.Nat.{_+_, _-_, _*_, _^_, _<_};
 ghost use lib.IntN.{pos, _+ℤ_, _-ℤ_};
+ghost use lib.Ieee.{Float};
 ghost use Rattle.dsp_types.specs.Times.{slots};
 ghost use Rattle.demodulator.specs.Receiver.{slotReadyFromBegin, setSlot, addSlots, withClock, far, slotsToSkip, skipIf};
-ghost use Rattle.demodulator.specs.View.{modeOf, viewOf};
+ghost use Rattle.demodulator.specs.View.{modeOf, receiverOf};
 ghost use Rattle.demodulator.specs.Bounds.{Within, Timed};
 
 // Samples from the beginning of a slot to where it is ready to be demodulated.
@@ -22,7 +24,7 @@ fn slot_ready_from_begin(mode: u8) -> i64
 }
 
 // When the slot with this number is ready.
-fn ready_time(mode: u8, reference: i64, slot: u32) -> i64
+pub(crate) fn ready_time(mode: u8, reference: i64, slot: u32) -> i64
     requires { ⌜ Within (2 ^ 40) reference × (slot < slots) ⌝ }
     ensures { λ r. ⌜ r ≡ reference +ℤ pos (slot * 1020) +ℤ slotReadyFromBegin (modeOf mode) ⌝ }
 {
@@ -55,10 +57,10 @@ fn slots_to_skip(t: i64) -> i32
     minus(0, dsp_types::div_euclid(minus(0, t), 1020)) as i32
 }
 
-impl Demodulator {
-    pub(crate) fn set_slot(self, slot: TdmaTime) -> Demodulator
+impl State {
+    pub(crate) fn set_slot(self, slot: TdmaTime) -> State
         requires { ⌜ Within (2 ^ 40) (self .«reference_time» .0) × (slot .0 < slots) ⌝ }
-        ensures { λ r. ⌜ viewOf r ≡ withClock (viewOf self) (setSlot (modeOf (self .mode)) (self .«reference_time» .0) (slot .0)) ⌝ }
+        ensures { λ r. ⌜ ((re im abs : List Float) → receiverOf r re im abs ≡ withClock (receiverOf self re im abs) (setSlot (modeOf (self .mode)) (self .«reference_time» .0) (slot .0))) ⌝ }
     {
         let ready = SampleCount(ready_time(self.mode, self.reference_time.0, slot.0));
         let mut d = self;
@@ -67,18 +69,18 @@ impl Demodulator {
         d
     }
 
-    pub(crate) fn add_slots(self, slots: i32) -> Demodulator
-        requires { ⌜ Timed 4000 (viewOf self) ⌝ }
-        ensures { λ r. ⌜ viewOf r ≡ withClock (viewOf self) (addSlots (viewOf self .mode) (viewOf self .clock) slots) ⌝ }
+    pub(crate) fn add_slots(self, slots: i32) -> State
+        requires { ⌜ Timed 4000 (receiverOf self [] [] []) ⌝ }
+        ensures { λ r. ⌜ ((re im abs : List Float) → receiverOf r re im abs ≡ withClock (receiverOf self re im abs) (addSlots (receiverOf self re im abs .mode) (receiverOf self re im abs .clock) slots)) ⌝ }
     {
         let slot = self.current_slot.add_timeslots(slots);
         self.set_slot(slot)
     }
 
     // Finds the next slot that is not past where the ready time is far off.
-    pub(crate) fn skip_slots(self, t: i64) -> Demodulator
-        requires { ⌜ Timed 4000 (viewOf self) × Within (2 ^ 41 - 2 ^ 34) t ⌝ }
-        ensures { λ r. ⌜ viewOf r ≡ skipIf (far t) t (viewOf self) ⌝ }
+    pub(crate) fn skip_slots(self, t: i64) -> State
+        requires { ⌜ Timed 4000 (receiverOf self [] [] []) × Within (2 ^ 41 - 2 ^ 34) t ⌝ }
+        ensures { λ r. ⌜ ((re im abs : List Float) → receiverOf r re im abs ≡ skipIf (far t) t (receiverOf self re im abs)) ⌝ }
     {
         if is_far(t) {
             return self.add_slots(slots_to_skip(t));

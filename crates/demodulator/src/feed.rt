@@ -1,5 +1,6 @@
 // A block of samples in one call.
 use crate::Demodulator;
+use crate::State;
 use crate::process::is_beyond;
 use crate::process::sample_refusal;
 use crate::process::valid_count;
@@ -13,17 +14,15 @@ use dsp_types::SampleCount;
 ghost use mathlib.Core.Path.{_≡_};
 ghost use mathlib.Core.Bool.{false};
 ghost use mathlib.Core.List.{_++_};
-ghost use Prim.Native.Nat.{_+_, _*_, _/_, _<_, _≤_, _^_, min};
+ghost use Prim.Native.Nat.{_+_, _*_, _/_, _<_, _≤_, min};
 ghost use lib.ListN.{length, take, drop};
-ghost use lib.Signed.{ltZ};
-ghost use Rattle.dsp_types.specs.Ints.{dn};
 ghost use Rattle.demodulator.specs.Calls.{accept};
 ghost use Rattle.demodulator.specs.Windows.{acceptWindows};
 ghost use Rattle.demodulator.specs.Feed.{interleaved, handsOver, feedOf};
 ghost use Rattle.fir.specs.Fir.{samplesOf};
 ghost use Rattle.demodulator.specs.Quiet.{keepAll, magnitudesOf, anyBeyond, samplesIn, Quiet};
-ghost use Rattle.demodulator.specs.View.{viewOf};
-ghost use Rattle.demodulator.specs.Bounds.{Within, Timed, Counter};
+ghost use Rattle.demodulator.specs.View.{receiverOf, viewOf};
+ghost use Rattle.demodulator.specs.Bounds.{Accepts};
 
 // Why no more samples were taken: there were no more, a slot was handed over, or the next one is refused.
 pub enum Stop {
@@ -47,7 +46,7 @@ struct Parts {
 
 struct Heard {
     pub handed: bool,
-    pub receiver: Demodulator,
+    pub state: State,
 }
 
 // How many samples from this counter on are only kept: the stored numbers are read as they are, none is missing, and no
@@ -121,50 +120,80 @@ fn magnitudes(re: &[f32], im: &[f32]) -> [f32; 1024]
     abs
 }
 
-impl Demodulator {
+impl State {
     // Samples that are only kept: filter, magnitudes and rings, each over the whole block.
-    fn keep_all(self, parts: Parts, next: i64) -> Demodulator
+    fn keep_all(
+        self,
+        re: &mut [f32; 2048],
+        im: &mut [f32; 2048],
+        abs: &mut [f32; 2048],
+        parts: Parts,
+        next: i64,
+    ) -> State
         requires { ⌜ parts .len ≤ 1024 ⌝ }
-        ensures { λ r. ⌜ viewOf r ≡ keepAll (viewOf self) (samplesIn parts) next ⌝ }
+        ensures { λ r. ⌜ receiverOf r (now (re .exit)) (now (im .exit)) (now (abs .exit)) ≡ keepAll (receiverOf self (now (re .entry)) (now (im .entry)) (now (abs .entry))) (samplesIn parts) next ⌝ }
     {
-        let re = parts.re;
-        let im = parts.im;
+        let x = parts.re;
+        let y = parts.im;
         let n = parts.len;
         let mut out_re = [0.0f32; 1024];
         let mut out_im = [0.0f32; 1024];
         let line = self.matched_filter;
-        let next_line = line.block(&re[..n], &im[..n], &mut out_re, &mut out_im);
-        let abs = magnitudes(&out_re[..n], &out_im[..n]);
+        let next_line = line.block(&x[..n], &y[..n], &mut out_re, &mut out_im);
+        let sizes = magnitudes(&out_re[..n], &out_im[..n]);
         let at = self.past_index;
         let count = SampleCount(next);
+        history::store(re, at, &out_re[..n]);
+        history::store(im, at, &out_im[..n]);
+        let index = history::store(abs, at, &sizes[..n]);
         let mut d = self;
         d.next_input_sample_count = count;
         d.matched_filter = next_line;
-        history::store(&mut d.past_re, at, &out_re[..n]);
-        history::store(&mut d.past_im, at, &out_im[..n]);
-        let index = history::store(&mut d.past_abs, at, &abs[..n]);
         d.past_index = index;
         d
     }
 
     // A sample that is not refused, and whether it handed a slot over: that alone makes one wait where none did.
-    fn hear(self, input: ComplexSample, counter: i64) -> Heard
-        requires { ⌜ Timed 1 (viewOf self) × Counter counter × Within (2 ^ 37) (viewOf self .next) × (dn (viewOf self .next) ≤ 0) × (ltZ counter (viewOf self .next) ≡ false) ⌝ }
-        ensures handed { λ r. ⌜ r .handed ≡ handsOver (acceptWindows (viewOf self) input counter) ⌝ }
-        ensures receiver { λ r. ⌜ viewOf (r .receiver) ≡ accept (viewOf self) input counter ⌝ }
+    fn hear(
+        self,
+        re: &mut [f32; 2048],
+        im: &mut [f32; 2048],
+        abs: &mut [f32; 2048],
+        input: ComplexSample,
+        counter: i64,
+    ) -> Heard
+        requires { ⌜ Accepts (receiverOf self (now re) (now im) (now abs)) counter ⌝ }
+        ensures handed { λ r. ⌜ r .handed ≡ handsOver (acceptWindows (receiverOf self (now (re .entry)) (now (im .entry)) (now (abs .entry))) input counter) ⌝ }
+        ensures state { λ r. ⌜ receiverOf (r .state) (now (re .exit)) (now (im .exit)) (now (abs .exit)) ≡ accept (receiverOf self (now (re .entry)) (now (im .entry)) (now (abs .entry))) input counter ⌝ }
     {
         let waiting = self.demodulated_slot_available;
         let mut before = self;
         before.demodulated_slot_available = false;
-        let mut d = before.accept(input, counter);
+        let mut d = before.accept(re, im, abs, input, counter);
         let handed = d.demodulated_slot_available;
         d.demodulated_slot_available = waiting | handed;
-        Heard {
-            handed,
-            receiver: d,
-        }
+        Heard { handed, state: d }
     }
 
+    fn fed(
+        self,
+        re: [f32; 2048],
+        im: [f32; 2048],
+        abs: [f32; 2048],
+        taken: usize,
+        stop: Stop,
+    ) -> Fed
+        ensures { λ r. ⌜ (r .taken ≡ taken) × (r .stop ≡ stop) × (viewOf (r .receiver) ≡ receiverOf self re im abs) ⌝ }
+    {
+        Fed {
+            taken,
+            stop,
+            receiver: self.with_past(re, im, abs),
+        }
+    }
+}
+
+impl Demodulator {
     // Takes samples, re and im in turn, with the counters from first on: up to one that hands a slot over, or to one
     // that is refused, which is not taken.
     pub fn feed(self, samples: &[f32], first: SampleCount) -> Fed
@@ -172,55 +201,46 @@ impl Demodulator {
         ensures stop { λ r. ⌜ r .stop ≡ feedOf (viewOf self) (interleaved (now (samples .entry))) (first .0) .stop ⌝ }
         ensures receiver { λ r. ⌜ viewOf (r .receiver) ≡ feedOf (viewOf self) (interleaved (now (samples .entry))) (first .0) .receiver ⌝ }
     {
-        let mut d = self;
+        let mut s = self.state();
+        let mut re = self.past_re;
+        let mut im = self.past_im;
+        let mut abs = self.past_abs;
         let mut counter = first.0;
         let mut taken: usize = 0;
         while taken < samples.len() / 2 {
             let quiet = quiet_samples(
-                d.reference_time.0,
-                d.slot_ready_time.0,
-                d.current_slot.0,
-                d.slots_since_last_valid_burst,
-                d.next_input_sample_count.0,
+                s.reference_time.0,
+                s.slot_ready_time.0,
+                s.current_slot.0,
+                s.slots_since_last_valid_burst,
+                s.next_input_sample_count.0,
                 counter,
             );
             let parts = parts_of(samples, taken, quiet);
             let len = parts.len;
             if 0 < len {
                 counter = plus(counter, len as i64);
-                d = d.keep_all(parts, counter);
+                s = s.keep_all(&mut re, &mut im, &mut abs, parts, counter);
                 taken = taken + len;
             } else {
                 let input = ComplexSample {
                     re: samples[2 * taken],
                     im: samples[2 * taken + 1],
                 };
-                let next = valid_count(d.next_input_sample_count.0);
+                let next = valid_count(s.next_input_sample_count.0);
                 let refusal = sample_refusal(next, input, counter);
                 if refusal != 0 {
-                    return Fed {
-                        taken,
-                        stop: Stop::Refused(refusal),
-                        receiver: d,
-                    };
+                    return s.fed(re, im, abs, taken, Stop::Refused(refusal));
                 }
-                let heard = d.valid().hear(input, counter);
-                d = heard.receiver;
+                let heard = s.valid().hear(&mut re, &mut im, &mut abs, input, counter);
+                s = heard.state;
                 counter = plus(counter, 1);
                 taken = taken + 1;
                 if heard.handed {
-                    return Fed {
-                        taken,
-                        stop: Stop::Slot,
-                        receiver: d,
-                    };
+                    return s.fed(re, im, abs, taken, Stop::Slot);
                 }
             }
         }
-        Fed {
-            taken,
-            stop: Stop::End,
-            receiver: d,
-        }
+        s.fed(re, im, abs, taken, Stop::End)
     }
 }

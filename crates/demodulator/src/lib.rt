@@ -4,6 +4,7 @@ mod feed;
 mod follow;
 mod listen;
 mod new;
+mod past;
 mod process;
 mod sums;
 mod take;
@@ -43,7 +44,7 @@ pub struct SlotBurstFinder {
     pub burst_len: usize,
 }
 
-// The state is flat and goes by value, and its rings are worked on in place. Modes and training sequences are numbers, so
+// The state is flat and goes by value. Modes and training sequences are numbers, so
 // that C can hold one. A stored number that no call could have left counts as a valid one.
 #[repr(C)]
 pub struct Demodulator {
@@ -69,5 +70,23 @@ pub struct Demodulator {
     pub past_re: [f32; 2048],
     pub past_im: [f32; 2048],
     pub past_abs: [f32; 2048],
+    pub past_index: usize,
+}
+
+// All of the state but the past.
+struct State {
+    pub mode: u8,
+    pub reference_time: SampleCount,
+    pub slot_ready_time: SampleCount,
+    pub current_slot: TdmaTime,
+    pub next_input_sample_count: SampleCount,
+    pub averaged_timing_error: f32,
+    pub slots_since_last_valid_burst: u32,
+    pub demodulated_slot_time: TdmaTime,
+    pub demodulated_slot_available: bool,
+    pub full_slot: SlotBurstFinder,
+    pub subslot1: SlotBurstFinder,
+    pub subslot2: SlotBurstFinder,
+    pub matched_filter: FirComplexSym,
     pub past_index: usize,
 }

@@ -1,27 +1,35 @@
 // What is kept of the samples: the filter line, and the past with its magnitudes.
-use crate::Demodulator;
+use crate::State;
 use dsp_types::ComplexSample;
 ghost use mathlib.Core.Path.{_≡_};
 ghost use Rattle.demodulator.specs.Receiver.{listen};
-ghost use Rattle.demodulator.specs.View.{viewOf};
+ghost use Rattle.demodulator.specs.View.{receiverOf};
 
-impl Demodulator {
+impl State {
     // One sample through the matched filter and into the past.
-    pub(crate) fn listen(self, input: ComplexSample) -> Demodulator
-        ensures { λ r. ⌜ viewOf r ≡ listen (viewOf self) input ⌝ }
+    pub(crate) fn listen(
+        self,
+        re: &mut [f32; 2048],
+        im: &mut [f32; 2048],
+        abs: &mut [f32; 2048],
+        input: ComplexSample,
+    ) -> State
+        ensures { λ r. ⌜ receiverOf r (now (re .exit)) (now (im .exit)) (now (abs .exit)) ≡ listen (receiverOf self (now (re .entry)) (now (im .entry)) (now (abs .entry))) input ⌝ }
     {
         let line = self.matched_filter;
         let filtered = line.sample(input);
         let out = filtered.out;
-        let abs = magnitude::magnitude(out.re, out.im);
         let next_line = filtered.line;
-        let at = history::next(self.past_index);
+        let out_re = [out.re; 1];
+        let out_im = [out.im; 1];
+        let size = [magnitude::magnitude(out.re, out.im); 1];
+        let at = self.past_index;
+        history::store(re, at, &out_re);
+        history::store(im, at, &out_im);
+        let index = history::store(abs, at, &size);
         let mut d = self;
         d.matched_filter = next_line;
-        d.past_re[at] = out.re;
-        d.past_im[at] = out.im;
-        d.past_abs[at] = abs;
-        d.past_index = at;
+        d.past_index = index;
         d
     }
 }

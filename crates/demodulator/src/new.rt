@@ -2,6 +2,7 @@
 use crate::Demodulator;
 use crate::Mode;
 use crate::SlotBurstFinder;
+use crate::clock::ready_time;
 use dsp_types::SampleCount;
 use dsp_types::TdmaTime;
 use fir::FirComplexSym;
@@ -42,10 +43,12 @@ impl Demodulator {
         let mode = number(initial_mode);
         let empty = no_burst();
         let line = FirComplexSym::new();
-        let d = Demodulator {
+        let ready = SampleCount(ready_time(mode, 0, 0));
+        Demodulator {
             mode,
             reference_time: SampleCount(0),
-            slot_ready_time: SampleCount(0),
+            // The ready time is that of slot 0.
+            slot_ready_time: ready,
             current_slot: TdmaTime(0),
             next_input_sample_count: SampleCount(0),
             averaged_timing_error: 0.0,
@@ -60,8 +63,6 @@ impl Demodulator {
             past_im: [0.0; 2048],
             past_abs: [0.0; 2048],
             past_index: 0,
-        };
-        // The ready time is that of slot 0.
-        d.set_slot(TdmaTime(0))
+        }
     }
 }

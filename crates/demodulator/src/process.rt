@@ -1,5 +1,6 @@
 // Samples, one by one.
 use crate::Demodulator;
+use crate::State;
 use crate::clock::tdiff;
 use crate::sums::is_below;
 use crate::sums::is_same;
@@ -10,15 +11,17 @@ use dsp_types::SampleCount;
 use dsp_types::TdmaTime;
 ghost use mathlib.Core.Path.{_≡_};
 ghost use mathlib.Core.Bool.{false};
+ghost use mathlib.Core.List.{List};
 ghost use Prim.Native.Nat.{_≤_, _<_, _^_, min};
 ghost use lib.IntN.{_-ℤ_};
 ghost use lib.Signed.{ltZ};
-ghost use Rattle.dsp_types.specs.Ints.{up, dn};
+ghost use lib.Ieee.{Float};
+ghost use Rattle.dsp_types.specs.Ints.{up};
 ghost use Rattle.dsp_types.specs.Refusals.{beyond};
 ghost use Rattle.demodulator.specs.Receiver.{closes, closeIf, processSample};
 ghost use Rattle.demodulator.specs.Calls.{answerNumber, sampleRefusal, missing, validTime, validCount, valid, feedZeros, accept, sampleOf};
-ghost use Rattle.demodulator.specs.View.{viewOf};
-ghost use Rattle.demodulator.specs.Bounds.{Within, Timed, Counter};
+ghost use Rattle.demodulator.specs.View.{receiverOf, viewOf};
+ghost use Rattle.demodulator.specs.Bounds.{Within, Timed, Counter, Accepts};
 
 pub enum Answer {
     Accepted,
@@ -84,34 +87,59 @@ fn at_most_100(n: u32) -> u32
     if n < 100 { n } else { 100 }
 }
 
-impl Demodulator {
-    fn close_if_ready(self, counter: i64) -> Demodulator
-        requires { ⌜ Timed 2000 (viewOf self) × Counter counter ⌝ }
-        ensures { λ r. ⌜ viewOf r ≡ closeIf (closes (viewOf self) counter) (viewOf self) ⌝ }
+impl State {
+    fn close_if_ready<'a>(
+        self,
+        re: &'a [f32; 2048],
+        im: &'a [f32; 2048],
+        abs: &'a [f32; 2048],
+        counter: i64,
+    ) -> State
+        requires { ⌜ Timed 2000 (receiverOf self (now re) (now im) (now abs)) × Counter counter ⌝ }
+        ensures { λ r. ⌜ receiverOf r (now (re .entry)) (now (im .entry)) (now (abs .entry)) ≡ closeIf (closes (receiverOf self (now (re .entry)) (now (im .entry)) (now (abs .entry))) counter) (receiverOf self (now (re .entry)) (now (im .entry)) (now (abs .entry))) ⌝ }
     {
         if is_same(minus(counter, 16), self.slot_ready_time.0) {
-            return self.close_window();
+            return self.close_window(re, im, abs);
         }
         self
     }
 
-    pub(crate) fn process_sample(self, input: ComplexSample, counter: i64) -> Demodulator
-        requires { ⌜ Timed 2000 (viewOf self) × Counter counter ⌝ }
-        ensures { λ r. ⌜ viewOf r ≡ processSample (viewOf self) input counter ⌝ }
+    pub(crate) fn process_sample(
+        self,
+        re: &mut [f32; 2048],
+        im: &mut [f32; 2048],
+        abs: &mut [f32; 2048],
+        input: ComplexSample,
+        counter: i64,
+    ) -> State
+        requires { ⌜ Timed 2000 (receiverOf self (now re) (now im) (now abs)) × Counter counter ⌝ }
+        ensures { λ r. ⌜ receiverOf r (now (re .exit)) (now (im .exit)) (now (abs .exit)) ≡ processSample (receiverOf self (now (re .entry)) (now (im .entry)) (now (abs .entry))) input counter ⌝ }
     {
         let t = tdiff(counter, self.slot_ready_time.0);
-        self.listen(input).skip_slots(t).close_if_ready(counter)
+        self.listen(re, im, abs, input)
+            .skip_slots(t)
+            .close_if_ready(re, im, abs, counter)
     }
 
     // So many zeros, under the counters just before this one.
-    fn process_zeros(self, count: usize, counter: i64) -> Demodulator
-        requires { ⌜ Timed 1 (viewOf self) × Counter counter × (count ≤ 1020) × (count ≤ up counter) ⌝ }
-        ensures { λ r. ⌜ viewOf r ≡ feedZeros count (viewOf self) counter ⌝ }
+    fn process_zeros(
+        self,
+        re: &mut [f32; 2048],
+        im: &mut [f32; 2048],
+        abs: &mut [f32; 2048],
+        count: usize,
+        counter: i64,
+    ) -> State
+        requires { ⌜ Timed 1 (receiverOf self (now re) (now im) (now abs)) × Counter counter × (count ≤ 1020) × (count ≤ up counter) ⌝ }
+        ensures { λ r. ⌜ receiverOf r (now (re .exit)) (now (im .exit)) (now (abs .exit)) ≡ feedZeros count (receiverOf self (now (re .entry)) (now (im .entry)) (now (abs .entry))) counter ⌝ }
     {
         let mut d = self;
         let mut left = count;
         while 0 < left {
             d = d.process_sample(
+                re,
+                im,
+                abs,
                 ComplexSample { re: 0.0, im: 0.0 },
                 minus(counter, left as i64),
             );
@@ -121,8 +149,8 @@ impl Demodulator {
     }
 
     // A stored number that no call could have left counts as a valid one.
-    pub(crate) fn valid(self) -> Demodulator
-        ensures { λ r. ⌜ viewOf r ≡ valid (viewOf self) ⌝ }
+    pub(crate) fn valid(self) -> State
+        ensures { λ r. ⌜ ((re im abs : List Float) → receiverOf r re im abs ≡ valid (receiverOf self re im abs)) ⌝ }
     {
         let reference = SampleCount(valid_time(self.reference_time.0, 549_755_813_888));
         let ready = SampleCount(valid_time(self.slot_ready_time.0, 1_099_511_627_775));
@@ -139,36 +167,48 @@ impl Demodulator {
     }
 
     // A sample that is not refused.
-    pub(crate) fn accept(self, input: ComplexSample, counter: i64) -> Demodulator
-        requires { ⌜ Timed 1 (viewOf self) × Counter counter × Within (2 ^ 37) (viewOf self .next) × (dn (viewOf self .next) ≤ 0) × (ltZ counter (viewOf self .next) ≡ false) ⌝ }
-        ensures { λ r. ⌜ viewOf r ≡ accept (viewOf self) input counter ⌝ }
+    pub(crate) fn accept(
+        self,
+        re: &mut [f32; 2048],
+        im: &mut [f32; 2048],
+        abs: &mut [f32; 2048],
+        input: ComplexSample,
+        counter: i64,
+    ) -> State
+        requires { ⌜ Accepts (receiverOf self (now re) (now im) (now abs)) counter ⌝ }
+        ensures { λ r. ⌜ receiverOf r (now (re .exit)) (now (im .exit)) (now (abs .exit)) ≡ accept (receiverOf self (now (re .entry)) (now (im .entry)) (now (abs .entry))) input counter ⌝ }
     {
         let zeros = missing_samples(self.next_input_sample_count.0, counter);
         let next = SampleCount(plus(counter, 1));
-        let mut d = self.process_zeros(zeros, counter)
-            .process_sample(input, counter);
+        let mut d = self.process_zeros(re, im, abs, zeros, counter)
+            .process_sample(re, im, abs, input, counter);
         d.next_input_sample_count = next;
         d
     }
+}
 
+impl Demodulator {
     // Takes one sample, or refuses it and stays as it is.
     pub fn sample(self, input: ComplexSample, sample_counter: SampleCount) -> Sampled
         ensures answer { λ r. ⌜ answerNumber (r .answer) ≡ sampleRefusal (validCount (viewOf self .next)) input («sample_counter» .0) ⌝ }
         ensures receiver { λ r. ⌜ viewOf (r .receiver) ≡ sampleOf (viewOf self) input («sample_counter» .0) ⌝ }
     {
-        let d = self.valid();
+        let s = self.state().valid();
         let counter = sample_counter.0;
-        let refusal = sample_refusal(d.next_input_sample_count.0, input, counter);
+        let refusal = sample_refusal(s.next_input_sample_count.0, input, counter);
         if refusal != 0 {
             return Sampled {
                 answer: Answer::Refused(refusal),
                 receiver: self,
             };
         }
-        let receiver = d.accept(input, counter);
+        let mut re = self.past_re;
+        let mut im = self.past_im;
+        let mut abs = self.past_abs;
+        let next = s.accept(&mut re, &mut im, &mut abs, input, counter);
         Sampled {
             answer: Answer::Accepted,
-            receiver,
+            receiver: next.with_past(re, im, abs),
         }
     }
 }

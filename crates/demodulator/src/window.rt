@@ -1,7 +1,7 @@
 // A window closes: its bits, the burst in them, and when the next one closes.
-use crate::Demodulator;
 use crate::Mode;
 use crate::SlotBurstFinder;
+use crate::State;
 use crate::sums::minus;
 use crate::sums::plus;
 use burst_finder::Finding;
@@ -9,14 +9,15 @@ use burst_finder::SlotType;
 use dsp_types::SampleCount;
 use dsp_types::TdmaTime;
 ghost use mathlib.Core.Path.{_≡_};
-ghost use mathlib.Core.List.{[]};
+ghost use mathlib.Core.List.{List, []};
 ghost use Prim.Native.Nat.{_*_, _^_, _≤_};
 ghost use lib.ListN.{take};
 ghost use lib.IntN.{pos, _+ℤ_, _-ℤ_};
+ghost use lib.Ieee.{Float};
 ghost use Rattle.timing.specs.Tracking.{averagedOf};
 ghost use Rattle.burst_finder.specs.Slots.{checkSlot};
 ghost use Rattle.demodulator.specs.Receiver.{processPastSamples, processed, trackedLater, trackedSooner, schedule, closeWindow};
-ghost use Rattle.demodulator.specs.View.{viewOf, signalFrom, Finds, Reads, IsWindow};
+ghost use Rattle.demodulator.specs.View.{receiverOf, signalFrom, Finds, Reads, IsWindow};
 ghost use Rattle.demodulator.specs.Bounds.{Within, Timed, Closing};
 
 // A window of the past: its symbol timing, and its bits with zeros behind them.
@@ -88,20 +89,18 @@ fn averaged(error: f32, symbol_timing: f32) -> f32
     error + (symbol_timing - 2.0 - error) * 0.1
 }
 
-impl Demodulator {
+impl State {
     // Look for a synchronization sequence behind its nominal place, so that its burst can still be demodulated.
-    fn search_window(self) -> Demodulator
-        requires { ⌜ Closing 2000 (viewOf self) × (self .mode ≡ 1) ⌝ }
-        ensures { λ r. ⌜ viewOf r ≡ processPastSamples Mode.DlUnsynchronized (viewOf self) ⌝ }
+    fn search_window<'a>(
+        self,
+        re: &'a [f32; 2048],
+        im: &'a [f32; 2048],
+        abs: &'a [f32; 2048],
+    ) -> State
+        requires { ⌜ Closing 2000 (receiverOf self (now re) (now im) (now abs)) × (self .mode ≡ 1) ⌝ }
+        ensures { λ r. ⌜ receiverOf r (now (re .entry)) (now (im .entry)) (now (abs .entry)) ≡ processPastSamples Mode.DlUnsynchronized (receiverOf self (now (re .entry)) (now (im .entry)) (now (abs .entry))) ⌝ }
     {
-        let w = read_window(
-            &self.past_re,
-            &self.past_im,
-            &self.past_abs,
-            self.past_index,
-            1024,
-            256,
-        );
+        let w = read_window(re, im, abs, self.past_index, 1024, 256);
         let bits = w.bits;
         let found = burst_finder::find_sync(&bits);
         let full = finder(bits, 510, Finding::not_found());
@@ -123,18 +122,16 @@ impl Demodulator {
     }
 
     // Hand the current slot over. The hundredth in a row without a training sequence returns to search.
-    fn downlink_window(self) -> Demodulator
-        requires { ⌜ Closing 2000 (viewOf self) × (self .mode ≡ 2) ⌝ }
-        ensures { λ r. ⌜ viewOf r ≡ processPastSamples Mode.Dl (viewOf self) ⌝ }
+    fn downlink_window<'a>(
+        self,
+        re: &'a [f32; 2048],
+        im: &'a [f32; 2048],
+        abs: &'a [f32; 2048],
+    ) -> State
+        requires { ⌜ Closing 2000 (receiverOf self (now re) (now im) (now abs)) × (self .mode ≡ 2) ⌝ }
+        ensures { λ r. ⌜ receiverOf r (now (re .entry)) (now (im .entry)) (now (abs .entry)) ≡ processPastSamples Mode.Dl (receiverOf self (now (re .entry)) (now (im .entry)) (now (abs .entry))) ⌝ }
     {
-        let w = read_window(
-            &self.past_re,
-            &self.past_im,
-            &self.past_abs,
-            self.past_index,
-            1024,
-            256,
-        );
+        let w = read_window(re, im, abs, self.past_index, 1024, 256);
         let full = checked(SlotType::Dl, w, 510);
         let slot = self.current_slot;
         let mut d = self;
@@ -155,34 +152,18 @@ impl Demodulator {
     }
 
     // Hand the slot over that the uplink numbers 2 less, with bursts in the whole slot and in its halves.
-    fn uplink_window(self) -> Demodulator
-        requires { ⌜ Closing 2000 (viewOf self) ⌝ }
-        ensures { λ r. ⌜ viewOf r ≡ processPastSamples Mode.Ul (viewOf self) ⌝ }
+    fn uplink_window<'a>(
+        self,
+        re: &'a [f32; 2048],
+        im: &'a [f32; 2048],
+        abs: &'a [f32; 2048],
+    ) -> State
+        requires { ⌜ Closing 2000 (receiverOf self (now re) (now im) (now abs)) ⌝ }
+        ensures { λ r. ⌜ receiverOf r (now (re .entry)) (now (im .entry)) (now (abs .entry)) ≡ processPastSamples Mode.Ul (receiverOf self (now (re .entry)) (now (im .entry)) (now (abs .entry))) ⌝ }
     {
-        let w = read_window(
-            &self.past_re,
-            &self.past_im,
-            &self.past_abs,
-            self.past_index,
-            1024,
-            256,
-        );
-        let w1 = read_window(
-            &self.past_re,
-            &self.past_im,
-            &self.past_abs,
-            self.past_index,
-            1024,
-            128,
-        );
-        let w2 = read_window(
-            &self.past_re,
-            &self.past_im,
-            &self.past_abs,
-            self.past_index,
-            514,
-            128,
-        );
+        let w = read_window(re, im, abs, self.past_index, 1024, 256);
+        let w1 = read_window(re, im, abs, self.past_index, 1024, 128);
+        let w2 = read_window(re, im, abs, self.past_index, 514, 128);
         let mut d = self;
         d.full_slot = checked(SlotType::UlFull, w, 510);
         d.subslot1 = checked(SlotType::UlSub, w1, 254);
@@ -192,23 +173,28 @@ impl Demodulator {
         d
     }
 
-    fn process_past_samples(self) -> Demodulator
-        requires { ⌜ Closing 2000 (viewOf self) ⌝ }
-        ensures { λ r. ⌜ viewOf r ≡ processed (viewOf self) ⌝ }
+    fn process_past_samples<'a>(
+        self,
+        re: &'a [f32; 2048],
+        im: &'a [f32; 2048],
+        abs: &'a [f32; 2048],
+    ) -> State
+        requires { ⌜ Closing 2000 (receiverOf self (now re) (now im) (now abs)) ⌝ }
+        ensures { λ r. ⌜ receiverOf r (now (re .entry)) (now (im .entry)) (now (abs .entry)) ≡ processed (receiverOf self (now (re .entry)) (now (im .entry)) (now (abs .entry))) ⌝ }
     {
         let mode = self.mode;
         match mode {
-            1 => self.search_window(),
-            2 => self.downlink_window(),
-            3 => self.uplink_window(),
+            1 => self.search_window(re, im, abs),
+            2 => self.downlink_window(re, im, abs),
+            3 => self.uplink_window(re, im, abs),
             _ => self,
         }
     }
 
     // Timing that seems off by more than half a sample moves the reference time.
-    fn track(self) -> Demodulator
-        requires { ⌜ Timed 3000 (viewOf self) ⌝ }
-        ensures { λ r. ⌜ viewOf r ≡ trackedSooner (trackedLater (viewOf self)) ⌝ }
+    fn track(self) -> State
+        requires { ⌜ Timed 3000 (receiverOf self [] [] []) ⌝ }
+        ensures { λ r. ⌜ ((re im abs : List Float) → receiverOf r re im abs ≡ trackedSooner (trackedLater (receiverOf self re im abs))) ⌝ }
     {
         let mut d = self;
         if 0.5 < d.averaged_timing_error {
@@ -225,9 +211,9 @@ impl Demodulator {
     }
 
     // When the next window closes. Search windows overlap.
-    fn schedule(self) -> Demodulator
-        requires { ⌜ Timed 3000 (viewOf self) ⌝ }
-        ensures { λ r. ⌜ viewOf r ≡ schedule (viewOf self .mode) (viewOf self) ⌝ }
+    fn schedule(self) -> State
+        requires { ⌜ Timed 3000 (receiverOf self [] [] []) ⌝ }
+        ensures { λ r. ⌜ ((re im abs : List Float) → receiverOf r re im abs ≡ schedule (receiverOf self re im abs .mode) (receiverOf self re im abs)) ⌝ }
     {
         let mode = self.mode;
         match mode {
@@ -243,10 +229,15 @@ impl Demodulator {
         }
     }
 
-    pub(crate) fn close_window(self) -> Demodulator
-        requires { ⌜ Closing 2000 (viewOf self) ⌝ }
-        ensures { λ r. ⌜ viewOf r ≡ closeWindow (viewOf self) ⌝ }
+    pub(crate) fn close_window<'a>(
+        self,
+        re: &'a [f32; 2048],
+        im: &'a [f32; 2048],
+        abs: &'a [f32; 2048],
+    ) -> State
+        requires { ⌜ Closing 2000 (receiverOf self (now re) (now im) (now abs)) ⌝ }
+        ensures { λ r. ⌜ receiverOf r (now (re .entry)) (now (im .entry)) (now (abs .entry)) ≡ closeWindow (receiverOf self (now (re .entry)) (now (im .entry)) (now (abs .entry))) ⌝ }
     {
-        self.process_past_samples().schedule()
+        self.process_past_samples(re, im, abs).schedule()
     }
 }

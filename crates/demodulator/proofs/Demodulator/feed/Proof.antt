@@ -7,6 +7,8 @@ use mir.Syntax.{w64}
 use mir.Val.{toZ, ofZ, SFits}
 use mir.ValLaws.{toZ-ofZ, toZ-pos}
 use Rattle.dsp_types.specs.Ints.{up, dn}
+use Rattle.dsp_types.specs.declared.ComplexSample.{ComplexSample}
+use Rattle.demodulator.specs.Receiver.{Receiver}
 use Rattle.demodulator.specs.Quiet.{samplesIn, Quiet}
 use Rattle.demodulator.specs.Bounds.{Within}
 use Rattle.demodulator.proofs.Keeping.{quiet-fewer, kept-block}
@@ -18,67 +20,114 @@ use Rattle.demodulator.specs.Calls.{valid, validCount, sampleRefusal, ac
 use Rattle.demodulator.proofs.Signed.{read, read-within, within-pos, counter-within}
 use Rattle.demodulator.proofs.Doors.{valid-timed, valid-next, Heard, not-refused}
 use Rattle.demodulator.specs.Feed.{interleaved, feedOf}
-use Rattle.demodulator.specs.View.{viewOf, clockOf}
+use Rattle.demodulator.specs.View.{viewOf, receiverOf}
 use Rattle.demodulator.proofs.Feeding.{ahead, none-yet, tell, part, next-sample, no-sample, at-end, at-refused, at-slot, at-next}
 use borrow.Author.Needs.{needs}
 use Rattle.demodulator.proofs.Demodulator.feed.Statement.{statement}
 use Rattle.demodulator.proofs.Demodulator.feed.Tie as tie
 
 abbrev Inv-loop : tie.InvT-loop
-Inv-loop samples d₀ counter₀ taken₀ d counter taken =
+Inv-loop samples s₀ re₀ im₀ abs₀ counter₀ taken₀ s re im abs counter taken =
     (taken ≤ length samples / 2)
     × (length samples * 4 < 2 ^ 63)
-    × (feedOf (viewOf d₀) (interleaved samples) (toZ w64 counter₀) ≡ ahead taken (feedOf (viewOf d) (interleaved (drop (2 * taken) samples)) (toZ w64 counter)))
+    × (feedOf (receiverOf s₀ re₀ im₀ abs₀) (interleaved samples) (toZ w64 counter₀) ≡ ahead taken (feedOf (receiverOf s re im abs) (interleaved (drop (2 * taken) samples)) (toZ w64 counter)))
 
 abbrev μ-loop : tie.MeasureT-loop
-μ-loop samples d₀ counter₀ taken₀ d counter taken = length samples / 2 - taken
+μ-loop samples s₀ re₀ im₀ abs₀ counter₀ taken₀ s re im abs counter taken = length samples / 2 - taken
+
+-- before the loop, in it, and at its next sample
+abbrev first : tie.At-loop Inv-loop μ-loop → tie.After-struct-told Inv-loop μ-loop
+first t = t .before
+
+abbrev start : tie.At-loop Inv-loop μ-loop → tie.Start Inv-loop μ-loop
+start t = first t .before .before .before .before .before .before
+
+abbrev given : tie.At-loop Inv-loop μ-loop → tie.After-state Inv-loop μ-loop
+given t = first t .before .before .before .before
+
+abbrev turn : tie.After-parts-of Inv-loop μ-loop → tie.At-loop Inv-loop μ-loop
+turn c = c .before .before .before .before .before .before
+
+abbrev receiver : tie.At-loop Inv-loop μ-loop → Receiver
+receiver t = receiverOf (t .loop .s) (t .loop .re) (t .loop .im) (t .loop .abs)
+
+abbrev parted : tie.After-sample-refusal Inv-loop μ-loop → tie.After-parts-of Inv-loop μ-loop
+parted c = c .before .before .before .before .before .before
+
+-- the next sample
+abbrev sample : tie.At-loop Inv-loop μ-loop → ComplexSample
+sample t = part (start t .args .samples .now) (t .loop .taken)
 
 -- the first counter, told where nothing else is known yet
-first-fits : (c : tie.After-struct-told Inv-loop μ-loop) → SFits w64 (c .before .before .args .first .0)
+first-fits : (c : tie.After-struct-told Inv-loop μ-loop) → SFits w64 (c .before .before .before .before .before .before .args .first .0)
 first-fits c = search needs
 
 -- the receiver's times, likewise
-reference-fits : (c : tie.After-struct-told2 Inv-loop μ-loop) → SFits w64 (c .before .before .loop .d .«reference_time» .0)
+reference-fits : (c : tie.After-struct-told2 Inv-loop μ-loop) → SFits w64 (c .before .before .loop .s .«reference_time» .0)
 reference-fits c = search needs
 
-ready-fits : (c : tie.After-struct-told2 Inv-loop μ-loop) → SFits w64 (c .before .before .loop .d .«slot_ready_time» .0)
+ready-fits : (c : tie.After-struct-told2 Inv-loop μ-loop) → SFits w64 (c .before .before .loop .s .«slot_ready_time» .0)
 ready-fits c = search needs
 
-next-fits : (c : tie.After-struct-told2 Inv-loop μ-loop) → SFits w64 (c .before .before .loop .d .«next_input_sample_count» .0)
+next-fits : (c : tie.After-struct-told2 Inv-loop μ-loop) → SFits w64 (c .before .before .loop .s .«next_input_sample_count» .0)
 next-fits c = search needs
 
 -- there is one more sample
-one-more : (c : tie.After-parts-of Inv-loop μ-loop) → (c .before .before .before .before .before .before .loop .taken + 1 ≤ length (c .before .before .before .before .before .before .before .before .before .args .samples .now) / 2) × (length (c .before .before .before .before .before .before .before .before .before .args .samples .now) * 4 < 2 ^ 63)
-one-more c = (omega arith, c .before .before .before .before .before .before .loop .inv .1)
+one-more : (c : tie.After-parts-of Inv-loop μ-loop) → let n = length (start (turn c) .args .samples .now) in (turn c .loop .taken + 1 ≤ n / 2) × (n * 4 < 2 ^ 63)
+one-more c = (omega arith, turn c .loop .inv .1)
+
+-- the loop starts with the receiver and the counter that were given
+same : (t : tie.At-loop Inv-loop μ-loop) → let a = start t .args in
+    feedOf (receiverOf (given t .state .result) (a .self .«past_re») (a .self .«past_im») (a .self .«past_abs»)) (interleaved (a .samples .now)) (toZ w64 (ofZ w64 (a .first .0)))
+    ≡ feedOf (viewOf (a .self)) (interleaved (a .samples .now)) (a .first .0)
+same t =
+    let a = start t .args in
+    ap (λ (r : Receiver). feedOf r (interleaved (a .samples .now)) (toZ w64 (ofZ w64 (a .first .0)))) (given t .state .ensures)
+    ∙ ap (feedOf (viewOf (a .self)) (interleaved (a .samples .now))) (toZ-ofZ w64 _ (first-fits (first t)))
+
+-- what all samples come to, from the receiver as it was given
+whole : (t : tie.At-loop Inv-loop μ-loop) → let s = start t in
+    feedOf (viewOf (s .args .self)) (interleaved (s .args .samples .now)) (s .args .first .0)
+    ≡ ahead (t .loop .taken) (feedOf (receiver t) (interleaved (drop (2 * t .loop .taken) (s .args .samples .now))) (toZ w64 (t .loop .counter)))
+whole t = sym (same t) ∙ t .loop .inv .2
 
 -- the sample is judged by the counter after the last accepted one, as it is read
-judged : (c : tie.After-sample-refusal Inv-loop μ-loop)
-    → c .sample-refusal .result
-    ≡ sampleRefusal (validCount (viewOf (c .before .before .before .before .before .before .before .before .before .before .before .before .loop .d) .next)) (part (c .before .before .before .before .before .before .before .before .before .before .before .before .before .before .before .args .samples .now) (c .before .before .before .before .before .before .before .before .before .before .before .before .loop .taken)) (toZ w64 (c .before .before .before .before .before .before .before .before .before .before .before .before .loop .counter))
-unfolding viewOf
+judged : (c : tie.After-sample-refusal Inv-loop μ-loop) → let t = turn (parted c) in
+    c .sample-refusal .result ≡ sampleRefusal (validCount (receiver t .next)) (sample t) (toZ w64 (t .loop .counter))
+unfolding receiverOf
 judged c =
-    let n : toZ w64 (ofZ w64 (c .before .valid-count .result)) ≡ validCount (c .before .before .before .before .before .before .before .before .before .before .before .before .loop .d .«next_input_sample_count» .0) =
-    read _ (c .before .valid-count .ok) ∙ c .before .valid-count .ensures ∙ ap validCount (toZ-ofZ w64 _ (next-fits (c .before .before .before .before .before .before .before .before .before .before))) in
-    c .sample-refusal .ensures ∙ ap (λ (z : ℤ). sampleRefusal z (part (c .before .before .before .before .before .before .before .before .before .before .before .before .before .before .before .args .samples .now) (c .before .before .before .before .before .before .before .before .before .before .before .before .loop .taken)) (toZ w64 (c .before .before .before .before .before .before .before .before .before .before .before .before .loop .counter))) n
+    let t = turn (parted c) in
+    let n : toZ w64 (ofZ w64 (c .before .valid-count .result)) ≡ validCount (t .loop .s .«next_input_sample_count» .0) =
+    read _ (c .before .valid-count .ok) ∙ c .before .valid-count .ensures ∙ ap validCount (toZ-ofZ w64 _ (next-fits (parted c .before .before .before .before))) in
+    c .sample-refusal .ensures ∙ ap (λ (z : ℤ). sampleRefusal z (sample t) (toZ w64 (t .loop .counter))) n
 
 -- the block as it stands in this turn, its next sample first
-left : (c : tie.After-sample-refusal Inv-loop μ-loop)
-    → feedOf (viewOf (c .before .before .before .before .before .before .before .before .before .before .before .before .before .before .before .args .self)) (interleaved (c .before .before .before .before .before .before .before .before .before .before .before .before .before .before .before .args .samples .now)) (c .before .before .before .before .before .before .before .before .before .before .before .before .before .before .before .args .first .0)
-    ≡ ahead (c .before .before .before .before .before .before .before .before .before .before .before .before .loop .taken)
-    (feedOf (viewOf (c .before .before .before .before .before .before .before .before .before .before .before .before .loop .d)) (part (c .before .before .before .before .before .before .before .before .before .before .before .before .before .before .before .args .samples .now) (c .before .before .before .before .before .before .before .before .before .before .before .before .loop .taken) ∷ interleaved (drop (2 * (c .before .before .before .before .before .before .before .before .before .before .before .before .loop .taken + 1)) (c .before .before .before .before .before .before .before .before .before .before .before .before .before .before .before .args .samples .now))) (toZ w64 (c .before .before .before .before .before .before .before .before .before .before .before .before .loop .counter)))
+left : (c : tie.After-sample-refusal Inv-loop μ-loop) → let t = turn (parted c) in let s = start t in
+    feedOf (viewOf (s .args .self)) (interleaved (s .args .samples .now)) (s .args .first .0)
+    ≡ ahead (t .loop .taken) (feedOf (receiver t) (sample t ∷ interleaved (drop (2 * (t .loop .taken + 1)) (s .args .samples .now))) (toZ w64 (t .loop .counter)))
 left c =
-    let l = c .before .before .before .before .before .before .before .before .before .before .before .before .loop in
-    let t = c .before .before .before .before .before .before .before .before .before .before .before .before .before in
-    (rw (toZ-ofZ w64 _ (first-fits t), next-sample (t .before .before .args .samples .now) (l .taken) (omega (arith, one-more (c .before .before .before .before .before .before) .0))) at (l .inv .2))
+    let t = turn (parted c) in
+    rw (next-sample (start t .args .samples .now) (t .loop .taken) (omega (arith, one-more (parted c) .0))) at (whole t)
 
 -- it is not refused
-heard : (c : tie.After-valid Inv-loop μ-loop) → Heard (validCount (viewOf (c .before .before .before .before .before .before .before .before .before .before .before .before .before .before .loop .d) .next)) (toZ w64 (c .before .before .before .before .before .before .before .before .before .before .before .before .before .before .loop .counter))
+heard : (c : tie.After-valid Inv-loop μ-loop) → let t = turn (parted (c .before .before)) in Heard (validCount (receiver t .next)) (toZ w64 (t .loop .counter))
 heard c = not-refused _ _ _ (sym (judged (c .before .before)) ∙ c .before .if2 .left)
 
+-- the receiver as it is read
+valid-read : (c : tie.After-valid Inv-loop μ-loop) → let t = turn (parted (c .before .before)) in
+    receiverOf (c .valid .result) (t .loop .re) (t .loop .im) (t .loop .abs) ≡ valid (receiver t)
+valid-read c =
+    let l = turn (parted (c .before .before)) .loop in
+    c .valid .ensures (l .re) (l .im) (l .abs)
+
+-- the receiver after a sample
+abbrev after : tie.After-hear Inv-loop μ-loop → Receiver
+after c = receiverOf (c .hear .result .state) (c .hear .last .1 .0) (c .hear .last .1 .1 .0) (c .hear .last .1 .1 .1 .0)
+
 -- the samples of a block are only kept
-quiet : (c : tie.Then1 Inv-loop μ-loop) → let d = viewOf (c .before .before .before .before .before .before .before .loop .d) in
-    Quiet (d .clock) (d .lock .misses) (d .next) (toZ w64 (c .before .before .before .before .before .before .before .loop .counter)) (c .before .parts-of .result .len)
-unfolding viewOf clockOf
+quiet : (c : tie.Then1 Inv-loop μ-loop) → let t = turn (c .before) in let d = receiver t in
+    Quiet (d .clock) (d .lock .misses) (d .next) (toZ w64 (t .loop .counter)) (c .before .parts-of .result .len)
+unfolding receiverOf
 quiet c =
     let p = c .before in
     let q = p .before in
@@ -88,6 +137,9 @@ quiet c =
 
 len-reads : (c : tie.Then1 Inv-loop μ-loop) → toZ w64 (c .before .parts-of .result .len) ≡ pos (c .before .parts-of .result .len)
 len-reads c = toZ-pos w64 (c .before .parts-of .result .len) (omega (arith, c .before .parts-of .ensures .0 .1))
+
+state-requires : tie.Need-state-requires Inv-loop μ-loop
+state-requires c κs = search needs
 
 loop-holds : tie.Need-loop-holds Inv-loop μ-loop
 loop-holds c = (omega arith, search needs, none-yet _ _ _)
@@ -104,71 +156,70 @@ cast-plus c = search needs
 plus-requires : tie.Need-plus-requires Inv-loop μ-loop
 plus-requires c κs =
     let q = quiet c in
-    rw (len-reads c) (counter-low (toZ w64 (c .before .before .before .before .before .before .before .loop .counter)) (q .low) (omega (arith, q .high)), within-pos (2 ^ 61) (omega (arith, c .before .parts-of .ensures .0 .1)))
+    rw (len-reads c) (counter-low (toZ w64 (turn (c .before) .loop .counter)) (q .low) (omega (arith, q .high)), within-pos (2 ^ 61) (omega (arith, c .before .parts-of .ensures .0 .1)))
   where
     counter-low : (z : ℤ) → dn z ≤ 0 → up z ≤ 2 ^ 37 → Within (2 ^ 61) z
     counter-low z l h = record { high = omega (arith, h); low = omega (arith, l) }
 
 keep-all-requires : tie.Need-keep-all-requires Inv-loop μ-loop
-keep-all-requires c κs = c .before .before .parts-of .ensures .0 .1
+keep-all-requires c κs = c .before .before .before .before .before .parts-of .ensures .0 .1
 
 add-taken : tie.Need-add-taken Inv-loop μ-loop
 add-taken c =
-    let p = c .before .before .before in
+    let p = c .before .before .before .before .before .before in
     record { fits = omega (arith, p .parts-of .ensures .0 .2, one-more p .1) }
 
 loop-less : tie.Need-loop-less Inv-loop μ-loop
 loop-less c =
-    let p = c .before .before .before in
-    omega (arith, p .parts-of .ensures .0 .2, c .before .before .if1 .taken)
+    let i = c .before .before .before .before .before in
+    omega (arith, i .before .parts-of .ensures .0 .2, i .if1 .taken)
 
 loop-again : tie.Need-loop-again Inv-loop μ-loop
 loop-again c =
-    let u = c .before in
+    let u = c .before .before .before .before in
     let i = u .before in
     let p = i .before in
-    let l = p .before .before .before .before .before .before .loop in
-    let t = p .before .before .before .before .before .before .before in
-    let a = t .before .before .args in
+    let t = turn p in
+    let l = t .loop in
     let n = p .parts-of .ensures .1 .1 .1 in
     let e =
-    kept-block (samplesIn (p .parts-of .result)) (interleaved (drop (2 * (l .taken + p .parts-of .result .len)) (a .samples .now))) _ (l .taken) (viewOf (l .d)) (toZ w64 (l .counter))
+    kept-block (samplesIn (p .parts-of .result)) (interleaved (drop (2 * (l .taken + p .parts-of .result .len)) (start t .args .samples .now))) _ (l .taken) (receiver t) (toZ w64 (l .counter))
     (rw n (quiet i)) (p .parts-of .ensures .1 .0) (rw (p .parts-of .ensures .1 .1 .0) at (l .inv .2)) in
     let f = rw n at e in
     (p .parts-of .ensures .0 .2, l .inv .1, rw (c .keep-all .ensures, read (u .plus .result) (u .plus .ok), u .plus .ensures, len-reads i) f)
 
-mul-t18 : tie.Need-mul-t18 Inv-loop μ-loop
-mul-t18 c =
-    let h = one-more (c .before) in
-    search needs
-
-mul-t19 : tie.Need-mul-t19 Inv-loop μ-loop
-mul-t19 c =
-    let h = one-more (c .before) in
-    search needs
-
-shared-slice-read-t21 : tie.Need-shared-slice-read-t21 Inv-loop μ-loop
-shared-slice-read-t21 c =
-    let h = one-more (c .before .before) in
-    search needs
-
-mul-t22 : tie.Need-mul-t22 Inv-loop μ-loop
-mul-t22 c =
-    let h = one-more (c .before .before) in
-    search needs
-
-add-t23 : tie.Need-add-t23 Inv-loop μ-loop
-add-t23 c =
-    let h = one-more (c .before .before) in
-    search needs
-
 mul-t24 : tie.Need-mul-t24 Inv-loop μ-loop
 mul-t24 c =
+    let h = one-more (c .before) in
+    search needs
+
+mul-t25 : tie.Need-mul-t25 Inv-loop μ-loop
+mul-t25 c =
+    let h = one-more (c .before) in
+    search needs
+
+shared-slice-read-t27 : tie.Need-shared-slice-read-t27 Inv-loop μ-loop
+shared-slice-read-t27 c =
     let h = one-more (c .before .before) in
     search needs
 
-shared-slice-read-t26 : tie.Need-shared-slice-read-t26 Inv-loop μ-loop
-shared-slice-read-t26 c =
+mul-t28 : tie.Need-mul-t28 Inv-loop μ-loop
+mul-t28 c =
+    let h = one-more (c .before .before) in
+    search needs
+
+add-t29 : tie.Need-add-t29 Inv-loop μ-loop
+add-t29 c =
+    let h = one-more (c .before .before) in
+    search needs
+
+mul-t30 : tie.Need-mul-t30 Inv-loop μ-loop
+mul-t30 c =
+    let h = one-more (c .before .before) in
+    search needs
+
+shared-slice-read-t32 : tie.Need-shared-slice-read-t32 Inv-loop μ-loop
+shared-slice-read-t32 c =
     let h = one-more (c .before .before .before) in
     search needs
 
@@ -178,8 +229,13 @@ valid-count-requires c κs = search needs
 sample-refusal-requires : tie.Need-sample-refusal-requires Inv-loop μ-loop
 sample-refusal-requires c κs = search needs
 
+fed-requires : tie.Need-fed-requires Inv-loop μ-loop
+fed-requires c κs = search needs
+
 returns : tie.Need-returns Inv-loop μ-loop
-returns c = tell _ _ (at-refused _ _ _ _ _ _ (left (c .before)) _ (judged (c .before)) (c .if2 .taken))
+returns c =
+    let r = c .before .before in
+    tell _ _ (at-refused _ _ _ _ _ _ (left r) _ (judged r) (c .before .if2 .taken)) (c .fed .ensures .0, (c .fed .ensures .1, c .fed .ensures .2))
 
 valid-requires : tie.Need-valid-requires Inv-loop μ-loop
 valid-requires c κs = search needs
@@ -187,44 +243,53 @@ valid-requires c κs = search needs
 hear-requires : tie.Need-hear-requires Inv-loop μ-loop
 unfolding valid
 hear-requires c κs =
-    let r = viewOf (c .before .before .before .before .before .before .before .before .before .before .before .before .before .before .loop .d) in
+    let v = c .before .before .before in
+    let r = receiver (turn (parted (v .before .before))) in
     let n = valid-next (r .next) in
-    rw (c .valid .ensures) (valid-timed r, heard c .counter, n .within, n .low, heard c .later)
+    rw (valid-read v) (record { timed = valid-timed r; counter = heard v .counter; next = n .within; low = n .low; later = heard v .later })
 
 plus-requires-2 : tie.Need-plus-requires-2 Inv-loop μ-loop
-plus-requires-2 c κs = (counter-within (heard (c .before .before) .counter), within-pos (2 ^ 61) (lit≤ tt))
+plus-requires-2 c κs = (counter-within (heard (c .before .before .before .before .before) .counter), within-pos (2 ^ 61) (lit≤ tt))
 
 add-taken-2 : tie.Need-add-taken-2 Inv-loop μ-loop
 add-taken-2 c =
-    let h = one-more (c .before .before .before .before .before .before .before .before .before .before .before) in
+    let h = one-more (parted (c .before .before .before .before .before .before .before .before)) in
     record { fits = omega (arith, h .0, h .1) }
+
+fed-requires-2 : tie.Need-fed-requires-2 Inv-loop μ-loop
+fed-requires-2 c κs = search needs
 
 returns-2 : tie.Need-returns-2 Inv-loop μ-loop
 returns-2 c =
-    let h = c .before .before .before in
-    let v = h .before in
+    let i = c .before in
+    let h = i .before .before .before in
+    let v = h .before .before .before .before in
+    let r = v .before .before in
     tell _ _
-    (at-slot _ _ _ _ _ _ (left (v .before .before)) (sym (judged (v .before .before)) ∙ v .before .if2 .left) (viewOf (h .hear .result .receiver)) (rw (v .valid .ensures) at (h .hear .ensures .1)) (h .hear .result .handed) (rw (v .valid .ensures) at (h .hear .ensures .0)) (c .if3 .taken))
+    (at-slot _ _ _ _ _ _ (left r) (sym (judged r) ∙ v .before .if2 .left) (after h) (rw (valid-read v) at (h .hear .ensures .1)) (h .hear .result .handed) (rw (valid-read v) at (h .hear .ensures .0)) (i .if3 .taken))
+    (c .fed2 .ensures .0, (c .fed2 .ensures .1, c .fed2 .ensures .2))
 
 loop-less-2 : tie.Need-loop-less-2 Inv-loop μ-loop
-loop-less-2 c = omega (arith, one-more (c .before .before .before .before .before .before .before .before .before .before .before .before) .0)
+loop-less-2 c = omega (arith, one-more (parted (c .before .before .before .before .before .before .before .before .before)) .0)
 
 loop-again-2 : tie.Need-loop-again-2 Inv-loop μ-loop
 loop-again-2 c =
     let p = c .before in
     let h = p .before .before in
-    let v = h .before in
-    let l = v .before .before .before .before .before .before .before .before .before .before .before .before .before .before .loop in
-    let t = v .before .before .before .before .before .before .before .before .before .before .before .before .before .before .before in
+    let v = h .before .before .before .before in
+    let r = v .before .before in
+    let t = turn (parted r) in
     let e =
-    at-next _ _ _ _ _ _ (left (v .before .before)) (sym (judged (v .before .before)) ∙ v .before .if2 .left) (viewOf (h .hear .result .receiver)) (rw (v .valid .ensures) at (h .hear .ensures .1)) (h .hear .result .handed) (rw (v .valid .ensures) at (h .hear .ensures .0)) (c .if3 .left) in
-    (one-more (v .before .before .before .before .before .before .before .before) .0, l .inv .1, rw (toZ-ofZ w64 _ (first-fits t), read _ (p .plus2 .ok), p .plus2 .ensures) e)
+    at-next _ _ _ _ _ _ (left r) (sym (judged r) ∙ v .before .if2 .left) (after h) (rw (valid-read v) at (h .hear .ensures .1)) (h .hear .result .handed) (rw (valid-read v) at (h .hear .ensures .0)) (c .if3 .left) in
+    (one-more (parted r) .0, t .loop .inv .1, same t ∙ e ∙ ap (λ (z : ℤ). ahead (t .loop .taken + 1) (feedOf (after h) (interleaved (drop (2 * (t .loop .taken + 1)) (start t .args .samples .now))) z)) (sym (read _ (p .plus2 .ok) ∙ p .plus2 .ensures)))
+
+fed-requires-3 : tie.Need-fed-requires-3 Inv-loop μ-loop
+fed-requires-3 c κs = search needs
 
 returns-3 : tie.Need-returns-3 Inv-loop μ-loop
 returns-3 c =
-    let l = c .before .loop in
     let t = c .before .before in
-    tell _ _ (at-end _ _ _ _ (rw (toZ-ofZ w64 _ (first-fits t), no-sample (t .before .before .args .samples .now) (l .taken) (omega arith)) at (l .inv .2)))
+    tell _ _ (at-end _ _ _ _ (rw (no-sample (start t .args .samples .now) (t .loop .taken) (omega arith)) at (whole t))) (c .fed3 .ensures .0, (c .fed3 .ensures .1, c .fed3 .ensures .2))
 
 pub feed-spec : {M : Type 1} → statement M
 feed-spec =
@@ -232,6 +297,7 @@ feed-spec =
     (tie.spec
     Inv-loop
     μ-loop
+    state-requires
     loop-holds
     quiet-samples-requires
     parts-of-requires
@@ -241,21 +307,24 @@ feed-spec =
     add-taken
     loop-less
     loop-again
-    mul-t18
-    mul-t19
-    shared-slice-read-t21
-    mul-t22
-    add-t23
     mul-t24
-    shared-slice-read-t26
+    mul-t25
+    shared-slice-read-t27
+    mul-t28
+    add-t29
+    mul-t30
+    shared-slice-read-t32
     valid-count-requires
     sample-refusal-requires
+    fed-requires
     returns
     valid-requires
     hear-requires
     plus-requires-2
     add-taken-2
+    fed-requires-2
     returns-2
     loop-less-2
     loop-again-2
+    fed-requires-3
     returns-3)

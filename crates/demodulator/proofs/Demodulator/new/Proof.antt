@@ -1,11 +1,11 @@
--- `Demodulator::new` meets its contract: its rings hold zeros, and `set_slot` sets the ready time.
+-- `Demodulator::new` meets its contract: its rings hold zeros, and the ready time is that of slot 0.
 use mathlib.Core.Path.{_∙_}
 use Prim.Native.Nat.{_^_}
 use lib.Dec.{lit≤, lit<}
 use Rattle.demodulator.specs.Signal.{quiet}
-use Rattle.demodulator.specs.Receiver.{new, noSlot, withClock}
+use Rattle.demodulator.specs.Receiver.{new, setSlot, noSlot}
 use Rattle.demodulator.specs.View.{viewOf, clockOf, signalOf, signalFrom}
-use Rattle.demodulator.proofs.Signed.{within-pos}
+use Rattle.demodulator.proofs.Signed.{read, within-pos}
 use Rattle.demodulator.proofs.Taking.{zeros-held, zeros-samples}
 use borrow.Author.Needs.{needs}
 use Rattle.demodulator.proofs.Demodulator.new.Statement.{statement}
@@ -20,15 +20,14 @@ no-burst-requires c κs = search needs
 new-requires : tie.Need-new-requires
 new-requires c κs = search needs
 
-set-slot-requires : tie.Need-set-slot-requires
-set-slot-requires c κs = (within-pos (2 ^ 40) (lit≤ tt), lit< tt)
+ready-time-requires : tie.Need-ready-time-requires
+ready-time-requires c κs = (within-pos (2 ^ 40) (lit≤ tt), lit< tt)
 
 returns : tie.Need-returns
-unfolding withClock new noSlot quiet viewOf clockOf signalOf signalFrom
+unfolding new setSlot noSlot quiet viewOf clockOf signalOf signalFrom
 returns c =
-    c .set-slot .ensures
-    ∙ rw (c .before .before .before .number .ensures, c .before .before .no-burst .ensures, c .before .new .ensures, zeros-samples, zeros-held)
+    rw (read _ (c .ready-time .ok), c .ready-time .ensures, c .before .before .before .number .ensures, c .before .before .no-burst .ensures, c .before .new .ensures, zeros-samples, zeros-held)
 
 pub new-spec : {M : Type 1} → statement M
 new-spec =
-    tie.close (tie.spec number-requires no-burst-requires new-requires set-slot-requires returns)
+    tie.close (tie.spec number-requires no-burst-requires new-requires ready-time-requires returns)

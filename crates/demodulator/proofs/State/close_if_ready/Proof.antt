@@ -1,0 +1,51 @@
+-- `State::close_if_ready` meets its contract: by the test.
+use mathlib.Core.Path.{_≡_, sym, _∙_}
+use mathlib.Core.Bool.{Bool, true, false}
+use Prim.Native.Nat.{_^_}
+use lib.Dec.{lit≤}
+use Rattle.demodulator.specs.Receiver.{Receiver, closes, closeIf}
+use Rattle.demodulator.specs.View.{receiverOf}
+use Rattle.demodulator.proofs.Signed.{read, read-within, wider, within-pos, counter-within}
+use Rattle.demodulator.proofs.Steps.{closing}
+use borrow.Author.Needs.{needs}
+use Rattle.demodulator.proofs.State.close_if_ready.Statement.{statement}
+use Rattle.demodulator.proofs.State.close_if_ready.Tie as tie
+use Rattle.demodulator.proofs.State.close_if_ready.Reads as reads
+use Rattle.demodulator.proofs.State.close_if_ready.Lts as lts
+use Rattle.demodulator.proofs.State.close_window.Reads as close-window-reads
+use Rattle.demodulator.proofs.sums.is_same.Reads as is-same-reads
+use Rattle.demodulator.proofs.sums.minus.Reads as minus-reads
+
+abbrev receiver : tie.Start → Receiver
+receiver s = receiverOf (s .args .self) (s .args .re .now) (s .args .im .now) (s .args .abs .now)
+
+tested : (c : tie.After-is-same) → c .is-same .result ≡ closes (receiver (c .before .before .before)) (c .before .before .before .args .counter)
+unfolding closes receiverOf
+tested c =
+    let s = c .before .before .before in
+    rw (c .is-same .ensures, read-within (wider (2 ^ 61) (lit≤ tt) (s .pre .0 .ready)), read _ (c .before .before .minus .ok), c .before .before .minus .ensures, read-within (counter-within (s .pre .1)))
+
+minus-requires : tie.Need-minus-requires
+minus-requires c κs =
+    let h = counter-within (c .pre .1) in
+    rw (read-within h) (h, within-pos (2 ^ 61) (lit≤ tt))
+
+is-same-requires : tie.Need-is-same-requires
+is-same-requires c κs = search needs
+
+close-window-requires : tie.Need-close-window-requires
+close-window-requires c κs =
+    let s = c .before .before .before .before in
+    closing 2000 (receiver s) (s .args .counter) (s .pre .0) (s .pre .1) (sym (tested (c .before)) ∙ c .if1 .taken)
+
+returns : tie.Need-returns
+unfolding closeIf
+returns c = rw (c .close-window .ensures, sym (tested (c .before .before)) ∙ c .before .if1 .taken)
+
+returns-2 : tie.Need-returns-2
+unfolding closeIf
+returns-2 c = rw (sym (tested (c .before)) ∙ c .if1 .left)
+
+pub close-if-ready-spec : {M : Type 1} → statement M
+close-if-ready-spec =
+    tie.close (tie.spec minus-requires is-same-requires close-window-requires returns returns-2)

@@ -1,0 +1,138 @@
+-- `State::search_window` meets its contract: a find's place is even and at most 256, so that its time is the definition's.
+use mathlib.Core.Path.{_≡_, ap, _∙_}
+use Prim.Native.Nat.{_≤_, _^_, _*_}
+use native.Mathlib.Omega.{arith}
+use lib.Dec.{lit≤, lit<}
+use lib.ListN.{take, length}
+use lib.Seq.{take-all}
+use lib.IntN.{pos, _+ℤ_, _-ℤ_}
+use Rattle.burst_finder.specs.Search.{findSync}
+use Rattle.burst_finder.specs.Slots.{notFound}
+use Rattle.demodulator.specs.declared.State.{State}
+use Rattle.demodulator.specs.declared.window.Window.{Window}
+use Rattle.demodulator.specs.Receiver.{Receiver, withClock}
+use Rattle.demodulator.specs.View.{receiverOf, modeOf, Finds, Reads, IsWindow}
+use Rattle.demodulator.specs.declared.Mode.the-variants.{Dl}
+use Rattle.demodulator.proofs.Signed.{read, read-within, wider}
+use Rattle.demodulator.proofs.Times.{found-within}
+use Rattle.demodulator.proofs.Views.{heard, mode-search, found-place, search-missed, search-found}
+use mir.Syntax.{w64}
+use mir.Val.{toZ, ofZ}
+use borrow.Author.Needs.{needs}
+use Rattle.demodulator.proofs.State.search_window.Statement.{statement}
+use Rattle.demodulator.proofs.State.search_window.Tie as tie
+
+abbrev start : tie.After-find-sync → tie.Start
+start c = c .before .before .before .before
+
+abbrev self : tie.After-find-sync → State
+self c = start c .args .self
+
+abbrev receiver : tie.After-find-sync → Receiver
+receiver c = receiverOf (self c) (start c .args .re .now) (start c .args .im .now) (start c .args .abs .now)
+
+abbrev window : tie.After-find-sync → Window
+window c = c .before .before .before .read-window .result
+
+window-read : (c : tie.After-find-sync) → Reads (receiver c .signal) 1024 256 (window c)
+window-read c = heard (self c) (start c .args .re .now) (start c .args .im .now) (start c .args .abs .now) (c .before .before .before .read-window .ensures)
+
+-- the array has the window's bits and no others
+searched : (c : tie.After-find-sync) → c .find-sync .result ≡ findSync (take 510 (window c .bits))
+searched c =
+    let e : length (window c .bits) ≡ 510 = search needs in
+    c .find-sync .ensures ∙ rw (take-all 510 (window c .bits) (omega arith))
+
+place : (c : tie.After-find-sync) → c .find-sync .result .pos ≤ 256
+place c = found-place (receiver c) (window c) (window-read c) (c .find-sync .result) (searched c)
+
+emptied : (c : tie.After-finder) → Finds (c .finder .result) (take 510 (window (c .before .before) .bits)) notFound
+emptied c = rw (c .before .not-found .ensures) at (c .finder .ensures)
+
+-- when the slot of the burst began
+begins : (c : tie.After-found-time)
+    → let a = c .before .before .before .before .before .before in toZ w64 (ofZ w64 (c .found-time .result)) ≡ self a .«slot_ready_time» .0 -ℤ pos 2034 +ℤ pos (a .find-sync .result .pos * 2)
+unfolding receiverOf
+begins c =
+    let a = c .before .before .before .before .before .before in
+    rw (read _ (c .found-time .ok), c .found-time .ensures, read-within (wider (2 ^ 61) (lit≤ tt) (start a .pre .0 .ready)))
+
+-- a receiver as it was, but locked
+abbrev locked : Receiver → Receiver
+locked r = record { mode = Dl; clock = r .clock; lock = r .lock; slot = r .slot; next = r .next; signal = r .signal }
+
+read-window-requires : tie.Need-read-window-requires
+read-window-requires c κs = IsWindow.full
+
+slice-aggregate-find-sync : tie.Need-slice-aggregate-find-sync
+slice-aggregate-find-sync c = search needs
+
+find-sync-requires : tie.Need-find-sync-requires
+find-sync-requires c κs = search needs
+
+not-found-requires : tie.Need-not-found-requires
+not-found-requires c κs = search needs
+
+finder-requires : tie.Need-finder-requires
+finder-requires c κs = search needs
+
+returns : tie.Need-returns
+unfolding receiverOf
+returns c =
+    let f = c .before .before in
+    let a = f .before .before in
+    search-missed (receiver a) (window a) (window-read a) (a .find-sync .result) (searched a) (f .finder .result) (emptied f) (c .if1 .taken)
+
+found-time-requires : tie.Need-found-time-requires
+unfolding receiverOf
+found-time-requires c κs =
+    let a = c .before .before .before .before .before in
+    let h = start a .pre .0 .ready in
+    rw (read-within (wider (2 ^ 61) (lit≤ tt) h)) (h, place a)
+
+averaged-requires : tie.Need-averaged-requires
+averaged-requires c κs = search needs
+
+set-slot-requires : tie.Need-set-slot-requires
+unfolding receiverOf
+set-slot-requires c κs =
+    let a = c .before .before .before .before .before .before .before in
+    rw (begins (c .before)) (wider (2 ^ 40) (lit≤ tt) (found-within (self a .«slot_ready_time» .0) (a .find-sync .result .pos) (start a .pre .0 .ready) (place a)), lit< tt)
+
+returns-2 : tie.Need-returns-2
+unfolding receiverOf withClock modeOf
+returns-2 c =
+    let f = c .before .before .before .before .before .before in
+    let a = f .before .before in
+    let s = start a .args in
+    ap locked (c .set-slot .ensures (s .re .now) (s .im .now) (s .abs .now))
+    ∙ search-found
+    (receiver a)
+    (window a)
+    (window-read a)
+    (a .find-sync .result)
+    (searched a)
+    (f .finder .result)
+    (emptied f)
+    (modeOf (self a .mode))
+    _
+    (c .before .averaged .result)
+    (c .before .before .before .before .if1 .left)
+    (mode-search (self a .mode) (start a .pre .1))
+    (begins (c .before .before))
+    (c .before .averaged .ensures)
+
+pub search-window-spec : {M : Type 1} → statement M
+search-window-spec =
+    tie.close
+    (tie.spec
+    read-window-requires
+    slice-aggregate-find-sync
+    find-sync-requires
+    not-found-requires
+    finder-requires
+    returns
+    found-time-requires
+    averaged-requires
+    set-slot-requires
+    returns-2)

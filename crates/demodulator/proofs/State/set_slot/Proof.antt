@@ -1,0 +1,25 @@
+-- `State::set_slot` meets its contract: the ready time is what `ready_time` says, and all else stays.
+use mir.Syntax.{w64}
+use mir.ValLaws.{toZ-ofZ}
+use Prim.Native.Nat.{_^_}
+use lib.Dec.{lit≤}
+use Rattle.demodulator.specs.Receiver.{withClock, setSlot}
+use Rattle.demodulator.specs.View.{receiverOf}
+use Rattle.demodulator.proofs.Signed.{read, read-within, wider}
+use borrow.Author.Needs.{needs}
+use Rattle.demodulator.proofs.State.set_slot.Statement.{statement}
+use Rattle.demodulator.proofs.State.set_slot.Tie as tie
+use Rattle.demodulator.proofs.State.set_slot.Reads as reads
+use Rattle.demodulator.proofs.State.set_slot.Lts as lts
+use Rattle.demodulator.proofs.clock.ready_time.Reads as ready-time-reads
+
+ready-time-requires : tie.Need-ready-time-requires
+ready-time-requires c κs = search needs
+
+returns : tie.Need-returns
+unfolding receiverOf withClock setSlot
+returns c = λ re im abs.
+    rw (read _ (c .ready-time .ok), c .ready-time .ensures, read-within (wider (2 ^ 61) (lit≤ tt) (c .before .before .pre .0)))
+
+pub set-slot-spec : {M : Type 1} → statement M
+set-slot-spec = tie.close (tie.spec ready-time-requires returns)
