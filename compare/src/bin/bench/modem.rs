@@ -148,27 +148,26 @@ fn original_hears(receiver: &mut Demodulator, block: &[f32], first: usize, slots
     }
 }
 
-fn take(receiver: Receiver, slots: &mut Vec<Slot>) -> Receiver {
+fn take(receiver: &mut Receiver, slots: &mut Vec<Slot>) {
     let (mut slot, mut half1, mut half2) = ([0; 510], [0; 254], [0; 254]);
     let lent = (slot.as_mut_ptr(), half1.as_mut_ptr(), half2.as_mut_ptr());
     // Each pointer goes with its array's length, here and below.
-    let taken = unsafe { library::tetra_take(receiver, lent.0, 510, lent.1, 254, lent.2, 254) };
+    let taken = unsafe { library::tetra_take(*receiver, lent.0, 510, lent.1, 254, lent.2, 254) };
     let view = taken.views[0];
     slots.push(Slot(taken.number, view.train_type, slot[..view.burst_len].to_vec()));
-    taken.receiver
+    *receiver = taken.receiver;
 }
 
-fn hears(mut receiver: Receiver, mut block: &[f32], mut first: usize, slots: &mut Vec<Slot>) -> Receiver {
+fn hears(receiver: &mut Receiver, mut block: &[f32], mut first: usize, slots: &mut Vec<Slot>) {
     while !block.is_empty() {
-        let fed = unsafe { library::tetra_feed(receiver, block.as_ptr(), block.len(), first as i64) };
-        receiver = fed.receiver;
+        let fed = unsafe { library::tetra_feed(*receiver, block.as_ptr(), block.len(), first as i64) };
+        *receiver = fed.receiver;
         block = &block[2 * fed.taken..];
         first += fed.taken;
         if fed.slot {
-            receiver = take(receiver, slots);
+            take(receiver, slots);
         }
     }
-    receiver
 }
 
 fn new_receiver() -> Receiver {
@@ -189,7 +188,7 @@ fn bench_receivers(names: [&str; 2], air: &[f32], carriers: usize) {
             let mut receivers = vec![new_receiver(); carriers];
             for (n, block) in air.chunks(2 * SLOT).enumerate() {
                 for receiver in &mut receivers {
-                    *receiver = hears(*receiver, block, n * SLOT, &mut slots);
+                    hears(receiver, block, n * SLOT, &mut slots);
                 }
             }
         }
@@ -211,7 +210,7 @@ fn bench_single_samples(air: &[f32]) {
             let next = unsafe { library::tetra_sample(receiver, sample[0], sample[1], n as i64) };
             receiver = next.receiver;
             if receiver.slot_waits {
-                receiver = take(receiver, &mut slots);
+                take(&mut receiver, &mut slots);
             }
         }
         slots
