@@ -104,11 +104,8 @@ samples-long [] im h = refl
 samples-long (x ∷ re) [] h = absurd (omega arith)
 samples-long (x ∷ re) (y ∷ im) h = ap suc (samples-long re im (omega arith))
 
-pub samples-count : (n : ℕ) (re im : List Float) → n ≤ length re → n ≤ length im → length (samplesOf (take n re) (take n im)) ≡ n
-samples-count n re im h k =
-    let u = length-take-le n re h in
-    let v = length-take-le n im k in
-    samples-long (take n re) (take n im) (u ∙ sym v) ∙ u
+pub samples-count : (n : ℕ) (re im : List Float) → length re ≡ n → length im ≡ n → length (samplesOf re im) ≡ n
+samples-count n re im u v = samples-long re im (u ∙ sym v) ∙ u
 
 pub whole-block : (re im outRe outIm : List Float) → length re ≡ length im → length re ≤ 1024 → length outRe ≡ 1024 → length outIm ≡ 1024 → blockOf re im outRe outIm ≡ samplesOf re im
 unfolding blockOf

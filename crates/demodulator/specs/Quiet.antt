@@ -11,7 +11,6 @@ use Rattle.dsp_types.specs.Ints.{up, dn}
 use Rattle.dsp_types.specs.Refusals.{beyond}
 use Rattle.fir.specs.Fir.{samplesOf}
 use Rattle.magnitude.specs.Magnitude.{magnitudeOf}
-use Rattle.demodulator.specs.declared.feed.Parts.{Parts}
 use Rattle.demodulator.specs.Signal.{Signal, hear}
 use Rattle.demodulator.specs.Receiver.{Clock, Receiver}
 use Rattle.demodulator.specs.Calls.{validClock}
@@ -32,9 +31,9 @@ unfoldable pub anyBeyond : List ComplexSample → Bool
 anyBeyond [] = false
 anyBeyond (x ∷ xs) = (beyond (x .re) || beyond (x .im)) || anyBeyond xs
 
--- the samples of a block of parts
-abbrev pub samplesIn : Parts → List ComplexSample
-samplesIn b = samplesOf (take (b .len) (b .re)) (take (b .len) (b .im))
+-- the first n samples of two rows of parts
+abbrev pub firstOf : ℕ → List Float → List Float → List ComplexSample
+firstOf n re im = samplesOf (take n re) (take n im)
 
 -- the n samples from the counter c on are only kept: the stored numbers are read as they are, no sample is missing, the counters are not
 -- refused, and they are all before the ready time and near it

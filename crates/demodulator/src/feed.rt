@@ -20,7 +20,7 @@ ghost use Rattle.demodulator.specs.Calls.{accept};
 ghost use Rattle.demodulator.specs.Windows.{acceptWindows};
 ghost use Rattle.demodulator.specs.Feed.{interleaved, handsOver, feedOf};
 ghost use Rattle.fir.specs.Fir.{samplesOf};
-ghost use Rattle.demodulator.specs.Quiet.{keepAll, magnitudesOf, anyBeyond, samplesIn, Quiet};
+ghost use Rattle.demodulator.specs.Quiet.{keepAll, magnitudesOf, anyBeyond, firstOf, Quiet};
 ghost use Rattle.demodulator.specs.View.{receiverOf, viewOf};
 ghost use Rattle.demodulator.specs.Bounds.{Accepts};
 
@@ -35,13 +35,6 @@ pub struct Fed {
     pub taken: usize,
     pub stop: Stop,
     pub receiver: Demodulator,
-}
-
-// The parts of len samples, and zeros behind them.
-struct Parts {
-    pub re: [f32; 1024],
-    pub im: [f32; 1024],
-    pub len: usize,
 }
 
 struct Heard {
@@ -83,29 +76,27 @@ fn least(a: usize, b: usize) -> usize
     if a < b { a } else { b }
 }
 
-// The parts of samples from the one numbered `at` on, at most so many, up to one that is too large.
-fn parts_of(samples: &[f32], at: usize, most: usize) -> Parts
-    requires { ⌜ at ≤ length (now samples) / 2 ⌝ }
-    ensures few { λ r. ⌜ (r .len ≤ most) × (r .len ≤ 1024) × (at + r .len ≤ length (now (samples .entry)) / 2) ⌝ }
-    ensures fine { λ r. ⌜ anyBeyond (samplesIn r) ≡ false ⌝ }
-    ensures same { λ r. ⌜ interleaved (drop (2 * at) (now (samples .entry))) ≡ samplesIn r ++ interleaved (drop (2 * (at + r .len)) (now (samples .entry))) ⌝ }
-    ensures count { λ r. ⌜ length (samplesIn r) ≡ r .len ⌝ }
+// Writes the parts of samples from the one numbered `at` on, at most so many, up to one that is too large. Returns how many.
+fn parts_of(samples: &[f32], at: usize, most: usize, re: &mut [f32], im: &mut [f32]) -> usize
+    requires { ⌜ (at ≤ length (now samples) / 2) × (length (now re) ≡ 1024) × (length (now im) ≡ 1024) ⌝ }
+    ensures few { λ r. ⌜ (r ≤ most) × (r ≤ 1024) × (at + r ≤ length (now (samples .entry)) / 2) ⌝ }
+    ensures fine { λ r. ⌜ anyBeyond (firstOf r (now (re .exit)) (now (im .exit))) ≡ false ⌝ }
+    ensures same { λ r. ⌜ interleaved (drop (2 * at) (now (samples .entry))) ≡ firstOf r (now (re .exit)) (now (im .exit)) ++ interleaved (drop (2 * (at + r)) (now (samples .entry))) ⌝ }
+    ensures long { λ r. ⌜ (length (now (re .exit)) ≡ 1024) × (length (now (im .exit)) ≡ 1024) ⌝ }
 {
     let room = least(least(most, 1024), samples.len() / 2 - at);
-    let mut re = [0.0f32; 1024];
-    let mut im = [0.0f32; 1024];
     let mut len: usize = 0;
     while len < room {
         let x = samples[2 * (at + len)];
         let y = samples[2 * (at + len) + 1];
         if is_beyond(x) | is_beyond(y) {
-            return Parts { re, im, len };
+            return len;
         }
         re[len] = x;
         im[len] = y;
         len = len + 1;
     }
-    Parts { re, im, len }
+    len
 }
 
 // The magnitudes of samples, and zeros behind them.
@@ -127,19 +118,18 @@ impl State {
         re: &mut [f32; 2048],
         im: &mut [f32; 2048],
         abs: &mut [f32; 2048],
-        parts: Parts,
+        x: &[f32],
+        y: &[f32],
         next: i64,
     ) -> State
-        requires { ⌜ parts .len ≤ 1024 ⌝ }
-        ensures { λ r. ⌜ receiverOf r (now (re .exit)) (now (im .exit)) (now (abs .exit)) ≡ keepAll (receiverOf self (now (re .entry)) (now (im .entry)) (now (abs .entry))) (samplesIn parts) next ⌝ }
+        requires { ⌜ (length (now x) ≡ length (now y)) × (length (now x) ≤ 1024) ⌝ }
+        ensures { λ r. ⌜ receiverOf r (now (re .exit)) (now (im .exit)) (now (abs .exit)) ≡ keepAll (receiverOf self (now (re .entry)) (now (im .entry)) (now (abs .entry))) (samplesOf (now (x .entry)) (now (y .entry))) next ⌝ }
     {
-        let x = parts.re;
-        let y = parts.im;
-        let n = parts.len;
+        let n = x.len();
         let mut out_re = [0.0f32; 1024];
         let mut out_im = [0.0f32; 1024];
         let line = self.matched_filter;
-        let next_line = line.block(&x[..n], &y[..n], &mut out_re, &mut out_im);
+        let next_line = line.block(x, y, &mut out_re, &mut out_im);
         let sizes = magnitudes(&out_re[..n], &out_im[..n]);
         let at = self.past_index;
         let count = SampleCount(next);
@@ -205,6 +195,8 @@ impl Demodulator {
         let mut re = self.past_re;
         let mut im = self.past_im;
         let mut abs = self.past_abs;
+        let mut x = [0.0f32; 1024];
+        let mut y = [0.0f32; 1024];
         let mut counter = first.0;
         let mut taken: usize = 0;
         while taken < samples.len() / 2 {
@@ -216,11 +208,10 @@ impl Demodulator {
                 s.next_input_sample_count.0,
                 counter,
             );
-            let parts = parts_of(samples, taken, quiet);
-            let len = parts.len;
+            let len = parts_of(samples, taken, quiet, &mut x, &mut y);
             if 0 < len {
                 counter = plus(counter, len as i64);
-                s = s.keep_all(&mut re, &mut im, &mut abs, parts, counter);
+                s = s.keep_all(&mut re, &mut im, &mut abs, &x[..len], &y[..len], counter);
                 taken = taken + len;
             } else {
                 let input = ComplexSample {

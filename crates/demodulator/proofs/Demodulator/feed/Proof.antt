@@ -2,14 +2,17 @@
 use mathlib.Core.Path.{_≡_, refl, sym, ap, _∙_}
 use Prim.Native.Nat.{ℕ, _+_, _-_, _*_, _/_, _<_, _≤_, _^_}
 use native.Mathlib.Omega.{arith}
-use lib.ListN.{length, drop}
+use lib.ListN.{length, take, drop}
+use lib.Seq.{length-take-le}
 use mir.Syntax.{w64}
 use mir.Val.{toZ, ofZ, SFits}
 use mir.ValLaws.{toZ-ofZ, toZ-pos}
 use Rattle.dsp_types.specs.Ints.{up, dn}
 use Rattle.dsp_types.specs.declared.ComplexSample.{ComplexSample}
 use Rattle.demodulator.specs.Receiver.{Receiver}
-use Rattle.demodulator.specs.Quiet.{samplesIn, Quiet}
+use Rattle.demodulator.specs.Quiet.{Quiet}
+use Rattle.fir.specs.Fir.{samplesOf}
+use Rattle.demodulator.proofs.Rows.{samples-count}
 use Rattle.demodulator.specs.Bounds.{Within}
 use Rattle.demodulator.proofs.Keeping.{quiet-fewer, kept-block}
 use mathlib.Core.List.{List, _∷_}
@@ -27,13 +30,15 @@ use Rattle.demodulator.proofs.Demodulator.feed.Statement.{statement}
 use Rattle.demodulator.proofs.Demodulator.feed.Tie as tie
 
 abbrev Inv-loop : tie.InvT-loop
-Inv-loop samples s₀ re₀ im₀ abs₀ counter₀ taken₀ s re im abs counter taken =
+Inv-loop samples s₀ re₀ im₀ abs₀ x₀ y₀ counter₀ taken₀ s re im abs x y counter taken =
     (taken ≤ length samples / 2)
     × (length samples * 4 < 2 ^ 63)
+    × (length x ≡ 1024)
+    × (length y ≡ 1024)
     × (feedOf (receiverOf s₀ re₀ im₀ abs₀) (interleaved samples) (toZ w64 counter₀) ≡ ahead taken (feedOf (receiverOf s re im abs) (interleaved (drop (2 * taken) samples)) (toZ w64 counter)))
 
 abbrev μ-loop : tie.MeasureT-loop
-μ-loop samples s₀ re₀ im₀ abs₀ counter₀ taken₀ s re im abs counter taken = length samples / 2 - taken
+μ-loop samples s₀ re₀ im₀ abs₀ x₀ y₀ counter₀ taken₀ s re im abs x y counter taken = length samples / 2 - taken
 
 -- before the loop, in it, and at its next sample
 abbrev first : tie.At-loop Inv-loop μ-loop → tie.After-struct-told Inv-loop μ-loop
@@ -46,13 +51,13 @@ abbrev given : tie.At-loop Inv-loop μ-loop → tie.After-state Inv-loop μ-loop
 given t = first t .before .before .before .before
 
 abbrev turn : tie.After-parts-of Inv-loop μ-loop → tie.At-loop Inv-loop μ-loop
-turn c = c .before .before .before .before .before .before
+turn c = c .before .before .before .before .before .before .before .before
 
 abbrev receiver : tie.At-loop Inv-loop μ-loop → Receiver
 receiver t = receiverOf (t .loop .s) (t .loop .re) (t .loop .im) (t .loop .abs)
 
 abbrev parted : tie.After-sample-refusal Inv-loop μ-loop → tie.After-parts-of Inv-loop μ-loop
-parted c = c .before .before .before .before .before .before
+parted c = c .before .before .before .before .before .before .before .before
 
 -- the next sample
 abbrev sample : tie.At-loop Inv-loop μ-loop → ComplexSample
@@ -89,7 +94,7 @@ same t =
 whole : (t : tie.At-loop Inv-loop μ-loop) → let s = start t in
     feedOf (viewOf (s .args .self)) (interleaved (s .args .samples .now)) (s .args .first .0)
     ≡ ahead (t .loop .taken) (feedOf (receiver t) (interleaved (drop (2 * t .loop .taken) (s .args .samples .now))) (toZ w64 (t .loop .counter)))
-whole t = sym (same t) ∙ t .loop .inv .2
+whole t = sym (same t) ∙ t .loop .inv .4
 
 -- the sample is judged by the counter after the last accepted one, as it is read
 judged : (c : tie.After-sample-refusal Inv-loop μ-loop) → let t = turn (parted c) in
@@ -98,7 +103,7 @@ unfolding receiverOf
 judged c =
     let t = turn (parted c) in
     let n : toZ w64 (ofZ w64 (c .before .valid-count .result)) ≡ validCount (t .loop .s .«next_input_sample_count» .0) =
-    read _ (c .before .valid-count .ok) ∙ c .before .valid-count .ensures ∙ ap validCount (toZ-ofZ w64 _ (next-fits (parted c .before .before .before .before))) in
+    read _ (c .before .valid-count .ok) ∙ c .before .valid-count .ensures ∙ ap validCount (toZ-ofZ w64 _ (next-fits (parted c .before .before .before .before .before .before))) in
     c .sample-refusal .ensures ∙ ap (λ (z : ℤ). sampleRefusal z (sample t) (toZ w64 (t .loop .counter))) n
 
 -- the block as it stands in this turn, its next sample first
@@ -124,28 +129,50 @@ valid-read c =
 abbrev after : tie.After-hear Inv-loop μ-loop → Receiver
 after c = receiverOf (c .hear .result .state) (c .hear .last .1 .0) (c .hear .last .1 .1 .0) (c .hear .last .1 .1 .1 .0)
 
+abbrev split : tie.Then1 Inv-loop μ-loop → tie.After-parts-of Inv-loop μ-loop
+split c = c .before .before .before
+
 -- the samples of a block are only kept
-quiet : (c : tie.Then1 Inv-loop μ-loop) → let t = turn (c .before) in let d = receiver t in
-    Quiet (d .clock) (d .lock .misses) (d .next) (toZ w64 (t .loop .counter)) (c .before .parts-of .result .len)
+quiet : (c : tie.Then1 Inv-loop μ-loop) → let t = turn (split c) in let d = receiver t in
+    Quiet (d .clock) (d .lock .misses) (d .next) (toZ w64 (t .loop .counter)) (split c .parts-of .result)
 unfolding receiverOf
 quiet c =
-    let p = c .before in
-    let q = p .before in
+    let p = split c in
+    let q = p .before .before .before in
     let t = q .before .before .before in
-    quiet-fewer (p .parts-of .result .len) (p .parts-of .ensures .0 .0)
+    quiet-fewer (p .parts-of .result) (p .parts-of .ensures .0 .0)
     (rw (toZ-ofZ w64 _ (reference-fits t), toZ-ofZ w64 _ (ready-fits t), toZ-ofZ w64 _ (next-fits t)) at (q .quiet-samples .ensures (omega (arith, c .if1 .taken, p .parts-of .ensures .0 .0))))
 
-len-reads : (c : tie.Then1 Inv-loop μ-loop) → toZ w64 (c .before .parts-of .result .len) ≡ pos (c .before .parts-of .result .len)
-len-reads c = toZ-pos w64 (c .before .parts-of .result .len) (omega (arith, c .before .parts-of .ensures .0 .1))
+len-reads : (c : tie.Then1 Inv-loop μ-loop) → toZ w64 (split c .parts-of .result) ≡ pos (split c .parts-of .result)
+len-reads c = toZ-pos w64 (split c .parts-of .result) (omega (arith, split c .parts-of .ensures .0 .1))
+
+-- the parts of the block's samples, and how many they are
+abbrev xs : tie.After-parts-of Inv-loop μ-loop → List Float
+xs c = take (c .parts-of .result) (c .parts-of .last .1 .1 .1 .0)
+
+abbrev ys : tie.After-parts-of Inv-loop μ-loop → List Float
+ys c = take (c .parts-of .result) (c .parts-of .last .1 .1 .1 .1 .0)
+
+xs-long : (c : tie.After-parts-of Inv-loop μ-loop) → length (xs c) ≡ c .parts-of .result
+xs-long c = length-take-le (c .parts-of .result) (c .parts-of .last .1 .1 .1 .0) (omega (arith, c .parts-of .ensures .0 .1, c .parts-of .ensures .1 .1 .1 .0))
+
+ys-long : (c : tie.After-parts-of Inv-loop μ-loop) → length (ys c) ≡ c .parts-of .result
+ys-long c = length-take-le (c .parts-of .result) (c .parts-of .last .1 .1 .1 .1 .0) (omega (arith, c .parts-of .ensures .0 .1, c .parts-of .ensures .1 .1 .1 .1))
 
 state-requires : tie.Need-state-requires Inv-loop μ-loop
 state-requires c κs = search needs
 
 loop-holds : tie.Need-loop-holds Inv-loop μ-loop
-loop-holds c = (omega arith, search needs, none-yet _ _ _)
+loop-holds c = (omega arith, search needs, search needs, search needs, none-yet _ _ _)
 
 quiet-samples-requires : tie.Need-quiet-samples-requires Inv-loop μ-loop
 quiet-samples-requires c κs = search needs
+
+slice-aggregate-parts-of : tie.Need-slice-aggregate-parts-of Inv-loop μ-loop
+slice-aggregate-parts-of c = search needs
+
+slice-aggregate-parts-of-2 : tie.Need-slice-aggregate-parts-of-2 Inv-loop μ-loop
+slice-aggregate-parts-of-2 c = search needs
 
 parts-of-requires : tie.Need-parts-of-requires Inv-loop μ-loop
 parts-of-requires c κs = search needs
@@ -156,71 +183,85 @@ cast-plus c = search needs
 plus-requires : tie.Need-plus-requires Inv-loop μ-loop
 plus-requires c κs =
     let q = quiet c in
-    rw (len-reads c) (counter-low (toZ w64 (turn (c .before) .loop .counter)) (q .low) (omega (arith, q .high)), within-pos (2 ^ 61) (omega (arith, c .before .parts-of .ensures .0 .1)))
+    rw (len-reads c) (counter-low (toZ w64 (turn (split c) .loop .counter)) (q .low) (omega (arith, q .high)), within-pos (2 ^ 61) (omega (arith, split c .parts-of .ensures .0 .1)))
   where
     counter-low : (z : ℤ) → dn z ≤ 0 → up z ≤ 2 ^ 37 → Within (2 ^ 61) z
     counter-low z l h = record { high = omega (arith, h); low = omega (arith, l) }
 
+array-share-prefix-x : tie.Need-array-share-prefix-x Inv-loop μ-loop
+array-share-prefix-x c = search needs
+
+slice-aggregate-keep-all : tie.Need-slice-aggregate-keep-all Inv-loop μ-loop
+slice-aggregate-keep-all c = sym (xs-long (split (c .before .before .before .before .before)))
+
+array-share-prefix-y : tie.Need-array-share-prefix-y Inv-loop μ-loop
+array-share-prefix-y c = search needs
+
+slice-aggregate-keep-all-2 : tie.Need-slice-aggregate-keep-all-2 Inv-loop μ-loop
+slice-aggregate-keep-all-2 c = sym (ys-long (split (c .before .before .before .before .before .before)))
+
 keep-all-requires : tie.Need-keep-all-requires Inv-loop μ-loop
-keep-all-requires c κs = c .before .before .before .before .before .parts-of .ensures .0 .1
+keep-all-requires c κs =
+    let p = split (c .before .before .before .before .before .before) in
+    (xs-long p ∙ sym (ys-long p), omega (arith, xs-long p, p .parts-of .ensures .0 .1))
 
 add-taken : tie.Need-add-taken Inv-loop μ-loop
 add-taken c =
-    let p = c .before .before .before .before .before .before in
+    let p = split (c .before .before .before .before .before .before .before) in
     record { fits = omega (arith, p .parts-of .ensures .0 .2, one-more p .1) }
 
 loop-less : tie.Need-loop-less Inv-loop μ-loop
 loop-less c =
-    let i = c .before .before .before .before .before in
-    omega (arith, i .before .parts-of .ensures .0 .2, i .if1 .taken)
+    let i = c .before .before .before .before .before .before .before in
+    omega (arith, split i .parts-of .ensures .0 .2, i .if1 .taken)
 
 loop-again : tie.Need-loop-again Inv-loop μ-loop
 loop-again c =
-    let u = c .before .before .before .before in
+    let u = c .before .before .before .before .before .before in
     let i = u .before in
-    let p = i .before in
+    let p = split i in
     let t = turn p in
     let l = t .loop in
-    let n = p .parts-of .ensures .1 .1 .1 in
+    let n = samples-count (p .parts-of .result) (xs p) (ys p) (xs-long p) (ys-long p) in
     let e =
-    kept-block (samplesIn (p .parts-of .result)) (interleaved (drop (2 * (l .taken + p .parts-of .result .len)) (start t .args .samples .now))) _ (l .taken) (receiver t) (toZ w64 (l .counter))
-    (rw n (quiet i)) (p .parts-of .ensures .1 .0) (rw (p .parts-of .ensures .1 .1 .0) at (l .inv .2)) in
+    kept-block (samplesOf (xs p) (ys p)) (interleaved (drop (2 * (l .taken + p .parts-of .result)) (start t .args .samples .now))) _ (l .taken) (receiver t) (toZ w64 (l .counter))
+    (rw n (quiet i)) (p .parts-of .ensures .1 .0) (rw (p .parts-of .ensures .1 .1 .0) at (l .inv .4)) in
     let f = rw n at e in
-    (p .parts-of .ensures .0 .2, l .inv .1, rw (c .keep-all .ensures, read (u .plus .result) (u .plus .ok), u .plus .ensures, len-reads i) f)
+    (p .parts-of .ensures .0 .2, l .inv .1, p .parts-of .ensures .1 .1 .1 .0, p .parts-of .ensures .1 .1 .1 .1, rw (c .keep-all .ensures, read (u .plus .result) (u .plus .ok), u .plus .ensures, len-reads i) f)
 
-mul-t24 : tie.Need-mul-t24 Inv-loop μ-loop
-mul-t24 c =
-    let h = one-more (c .before) in
-    search needs
-
-mul-t25 : tie.Need-mul-t25 Inv-loop μ-loop
-mul-t25 c =
-    let h = one-more (c .before) in
-    search needs
-
-shared-slice-read-t27 : tie.Need-shared-slice-read-t27 Inv-loop μ-loop
-shared-slice-read-t27 c =
-    let h = one-more (c .before .before) in
-    search needs
-
-mul-t28 : tie.Need-mul-t28 Inv-loop μ-loop
-mul-t28 c =
-    let h = one-more (c .before .before) in
-    search needs
-
-add-t29 : tie.Need-add-t29 Inv-loop μ-loop
-add-t29 c =
-    let h = one-more (c .before .before) in
-    search needs
-
-mul-t30 : tie.Need-mul-t30 Inv-loop μ-loop
-mul-t30 c =
-    let h = one-more (c .before .before) in
-    search needs
-
-shared-slice-read-t32 : tie.Need-shared-slice-read-t32 Inv-loop μ-loop
-shared-slice-read-t32 c =
+mul-t33 : tie.Need-mul-t33 Inv-loop μ-loop
+mul-t33 c =
     let h = one-more (c .before .before .before) in
+    search needs
+
+mul-t34 : tie.Need-mul-t34 Inv-loop μ-loop
+mul-t34 c =
+    let h = one-more (c .before .before .before) in
+    search needs
+
+shared-slice-read-t36 : tie.Need-shared-slice-read-t36 Inv-loop μ-loop
+shared-slice-read-t36 c =
+    let h = one-more (c .before .before .before .before) in
+    search needs
+
+mul-t37 : tie.Need-mul-t37 Inv-loop μ-loop
+mul-t37 c =
+    let h = one-more (c .before .before .before .before) in
+    search needs
+
+add-t38 : tie.Need-add-t38 Inv-loop μ-loop
+add-t38 c =
+    let h = one-more (c .before .before .before .before) in
+    search needs
+
+mul-t39 : tie.Need-mul-t39 Inv-loop μ-loop
+mul-t39 c =
+    let h = one-more (c .before .before .before .before) in
+    search needs
+
+shared-slice-read-t41 : tie.Need-shared-slice-read-t41 Inv-loop μ-loop
+shared-slice-read-t41 c =
+    let h = one-more (c .before .before .before .before .before) in
     search needs
 
 valid-count-requires : tie.Need-valid-count-requires Inv-loop μ-loop
@@ -281,7 +322,7 @@ loop-again-2 c =
     let t = turn (parted r) in
     let e =
     at-next _ _ _ _ _ _ (left r) (sym (judged r) ∙ v .before .if2 .left) (after h) (rw (valid-read v) at (h .hear .ensures .1)) (h .hear .result .handed) (rw (valid-read v) at (h .hear .ensures .0)) (c .if3 .left) in
-    (one-more (parted r) .0, t .loop .inv .1, same t ∙ e ∙ ap (λ (z : ℤ). ahead (t .loop .taken + 1) (feedOf (after h) (interleaved (drop (2 * (t .loop .taken + 1)) (start t .args .samples .now))) z)) (sym (read _ (p .plus2 .ok) ∙ p .plus2 .ensures)))
+    (one-more (parted r) .0, t .loop .inv .1, parted r .parts-of .ensures .1 .1 .1 .0, parted r .parts-of .ensures .1 .1 .1 .1, same t ∙ e ∙ ap (λ (z : ℤ). ahead (t .loop .taken + 1) (feedOf (after h) (interleaved (drop (2 * (t .loop .taken + 1)) (start t .args .samples .now))) z)) (sym (read _ (p .plus2 .ok) ∙ p .plus2 .ensures)))
 
 fed-requires-3 : tie.Need-fed-requires-3 Inv-loop μ-loop
 fed-requires-3 c κs = search needs
@@ -300,20 +341,26 @@ feed-spec =
     state-requires
     loop-holds
     quiet-samples-requires
+    slice-aggregate-parts-of
+    slice-aggregate-parts-of-2
     parts-of-requires
     cast-plus
     plus-requires
+    array-share-prefix-x
+    slice-aggregate-keep-all
+    array-share-prefix-y
+    slice-aggregate-keep-all-2
     keep-all-requires
     add-taken
     loop-less
     loop-again
-    mul-t24
-    mul-t25
-    shared-slice-read-t27
-    mul-t28
-    add-t29
-    mul-t30
-    shared-slice-read-t32
+    mul-t33
+    mul-t34
+    shared-slice-read-t36
+    mul-t37
+    add-t38
+    mul-t39
+    shared-slice-read-t41
     valid-count-requires
     sample-refusal-requires
     fed-requires

@@ -3,17 +3,17 @@ use mathlib.Core.Path.{_≡_}
 use Prim.Native.Nat.{_+_, _-_, _/_, _≤_, _<_, _^_}
 use native.Mathlib.Omega.{arith}
 use lib.ListN.{length}
-use Rattle.demodulator.proofs.Rows.{Split, split-none, split-one, samples-count}
+use Rattle.demodulator.proofs.Rows.{Split, split-none, split-one}
 use borrow.Author.Needs.{needs}
 use Rattle.demodulator.proofs.feed.parts_of.Statement.{statement}
 use Rattle.demodulator.proofs.feed.parts_of.Tie as tie
 
 abbrev Inv-loop : tie.InvT-loop
-Inv-loop samples at most room re₀ im₀ len₀ re im len =
+Inv-loop samples at most re₀ im₀ room len₀ re im len =
     (len ≤ room) × (room ≤ most) × (room ≤ 1024) × (at + room ≤ length samples / 2) × (length samples < 2 ^ 64) × (length re ≡ 1024) × (length im ≡ 1024) × Split samples re im at len
 
 abbrev μ-loop : tie.MeasureT-loop
-μ-loop samples at most room re₀ im₀ len₀ re im len = room - len
+μ-loop samples at most re₀ im₀ room len₀ re im len = room - len
 
 least-requires : tie.Need-least-requires Inv-loop μ-loop
 least-requires c κs = search needs
@@ -60,22 +60,28 @@ is-beyond-requires c κs = search needs
 is-beyond-requires-2 : tie.Need-is-beyond-requires-2 Inv-loop μ-loop
 is-beyond-requires-2 c κs = search needs
 
+same-length : tie.Need-same-length Inv-loop μ-loop
+same-length c = search needs
+
+same-length-2 : tie.Need-same-length-2 Inv-loop μ-loop
+same-length-2 c = search needs
+
 returns : tie.Need-returns Inv-loop μ-loop
 returns c =
     let l = c .before .before .before .before .before .before .loop in
-    ((omega (arith, l .inv), omega (arith, l .inv), omega (arith, l .inv)), (l .inv .7 .fine, (l .inv .7 .same, samples-count (l .len) (l .re) (l .im) (omega (arith, l .inv)) (omega (arith, l .inv)))))
+    ((omega (arith, l .inv), omega (arith, l .inv), omega (arith, l .inv)), (l .inv .7 .fine, (l .inv .7 .same, (l .inv .5, l .inv .6))))
 
 mul-re : tie.Need-mul-re Inv-loop μ-loop
 mul-re c = search needs
 
-array-write-re : tie.Need-array-write-re Inv-loop μ-loop
-array-write-re c = search needs
+slice-write-re : tie.Need-slice-write-re Inv-loop μ-loop
+slice-write-re c = search needs
 
 mul-im : tie.Need-mul-im Inv-loop μ-loop
 mul-im c = search needs
 
-array-write-im : tie.Need-array-write-im Inv-loop μ-loop
-array-write-im c = search needs
+slice-write-im : tie.Need-slice-write-im Inv-loop μ-loop
+slice-write-im c = search needs
 
 add-len : tie.Need-add-len Inv-loop μ-loop
 add-len c = search needs
@@ -86,7 +92,7 @@ loop-less c = search needs
 loop-again : tie.Need-loop-again Inv-loop μ-loop
 loop-again c =
     let l = c .before .before .before .before .before .before .loop in
-    let a = c .before .before .before .before .before .before .before .before .before .before .args in
+    let a = c .before .before .before .before .before .before .before .before .before .before .before .before .args in
     let f = rw (c .before .before .is-beyond .ensures, c .before .is-beyond2 .ensures) at (c .if1 .left) in (
       search needs,
       l .inv .1,
@@ -98,10 +104,16 @@ loop-again c =
       split-one (a .samples .now) (l .re) (l .im) (a .at) (l .len) (omega arith) (omega arith) (omega (arith, l .inv)) f (l .inv .7),
     )
 
+same-length-3 : tie.Need-same-length-3 Inv-loop μ-loop
+same-length-3 c = search needs
+
+same-length-4 : tie.Need-same-length-4 Inv-loop μ-loop
+same-length-4 c = search needs
+
 returns-2 : tie.Need-returns-2 Inv-loop μ-loop
 returns-2 c =
     let l = c .before .loop in
-    ((omega (arith, l .inv), omega (arith, l .inv), omega (arith, l .inv)), (l .inv .7 .fine, (l .inv .7 .same, samples-count (l .len) (l .re) (l .im) (omega (arith, l .inv)) (omega (arith, l .inv)))))
+    ((omega (arith, l .inv), omega (arith, l .inv), omega (arith, l .inv)), (l .inv .7 .fine, (l .inv .7 .same, (l .inv .5, l .inv .6))))
 
 pub parts-of-spec : {M : Type 1} → statement M
 parts-of-spec =
@@ -124,12 +136,16 @@ parts-of-spec =
     shared-slice-read-y
     is-beyond-requires
     is-beyond-requires-2
+    same-length
+    same-length-2
     returns
     mul-re
-    array-write-re
+    slice-write-re
     mul-im
-    array-write-im
+    slice-write-im
     add-len
     loop-less
     loop-again
+    same-length-3
+    same-length-4
     returns-2)
