@@ -121,17 +121,22 @@ fn best<const N: usize, T: PartialEq>(mut run: impl FnMut(usize) -> T) -> [Durat
     times
 }
 
-/// Samples, re and im in turn.
-fn downlink(noise: f32, gain: f32) -> Vec<f32> {
+/// Samples, re and im in turn: a carrier with noise, and noise alone.
+fn downlink() -> Vec<f32> {
     let mut random = Random::new(7);
-    let mut channel = Channel::new(Carrier::new(&mut random, downlink_burst), gain);
-    channel.noise = noise;
+    let mut channel = Channel::new(Carrier::new(&mut random, downlink_burst), 1.0);
+    channel.noise = 0.1;
     (0..SAMPLES)
         .flat_map(|_| {
             let sample = channel.next(&mut random);
             [sample.re, sample.im]
         })
         .collect()
+}
+
+fn noise() -> Vec<f32> {
+    let mut random = Random::new(8);
+    (0..2 * SAMPLES).map(|_| 0.3 * random.unit()).collect()
 }
 
 fn original_takes(receiver: &mut Demodulator, slots: &mut Vec<Slot>) {
@@ -333,8 +338,8 @@ fn bench_finders() {
 }
 
 pub fn bench() {
-    let air = downlink(0.1, 1.0);
-    let noise = downlink(0.3, 0.0);
+    let air = downlink();
+    let noise = noise();
     let few = &air[..2 * FEW];
     bench_receivers(["receiver, searching: the original's `sample`", "receiver, searching: this library, 1020 a call"], &noise, 1);
     bench_receivers(["receiver, locked: the original's `sample`", "receiver, locked: this library, 1020 a call"], &air, 1);
