@@ -7,7 +7,7 @@ use train_consts::SEQ_SYNC;
 ghost use mathlib.Core.Path.{_≡_};
 ghost use Prim.Native.Nat.{_+_, _≤_, _<_};
 ghost use lib.ListN.{length};
-ghost use Rattle.burst_finder.specs.Search.{placings, findSequence, findSync};
+ghost use Rattle.burst_finder.specs.Search.{placings, findSequence, below, findSync};
 ghost use Rattle.burst_finder.specs.Slots.{typeNumber, notFound, checkSequence, checkNormal, checkSlot, getBurst};
 
 // The best placing of a sequence in bits, and how many bits differ there.
@@ -69,20 +69,20 @@ fn even_placings(n: usize, m: usize) -> usize
     if n < m { 0 } else { (n - m) / 2 + 1 }
 }
 
-// The even placing with the fewest differences, the earliest on a tie; place 0 and every bit wrong where none has fewer. For an empty sequence that is
-// place 0 and none wrong.
-pub fn find_sequence(bits: &[u8], sequence: &[u8]) -> Found
-    ensures { λ r. ⌜ r ≡ findSequence (now (bits .entry)) (now (sequence .entry)) ⌝ }
+// The even placing with the fewest differences, the earliest on a tie, where it has fewer than the limit; else place 0 and the limit. A low limit makes
+// for a quick search: a placing is left where it can't be better any more.
+fn find_below(bits: &[u8], sequence: &[u8], limit: usize) -> Found
+    requires { ⌜ limit ≤ length (now sequence) ⌝ }
+    ensures { λ r. ⌜ r ≡ below limit (findSequence (now (bits .entry)) (now (sequence .entry))) ⌝ }
 {
     let mut min_pos: usize = 0;
-    let mut min_dist = sequence.len();
+    let mut min_dist = limit;
     let count = even_placings(bits.len(), sequence.len());
     'placing: for half in 0..count {
         let position = 2 * half;
         let mut dist: usize = 0;
         for i in 0..sequence.len() {
             if dist == min_dist {
-                // This placing can't be better any more.
                 continue 'placing;
             }
             if bits[position + i] != sequence[i] {
@@ -100,14 +100,23 @@ pub fn find_sequence(bits: &[u8], sequence: &[u8]) -> Found
     }
 }
 
-// The search of a receiver that is not synchronized: from bit 216 on, so that the burst found can still be received whole. The place counts from there.
+// The even placing with the fewest differences, the earliest on a tie; place 0 and every bit wrong where none has fewer. For an empty sequence that is
+// place 0 and none wrong.
+pub fn find_sequence(bits: &[u8], sequence: &[u8]) -> Found
+    ensures { λ r. ⌜ r ≡ findSequence (now (bits .entry)) (now (sequence .entry)) ⌝ }
+{
+    find_below(bits, sequence, sequence.len())
+}
+
+// The search of a receiver that is not synchronized: from bit 216 on, so that the burst found can still be received whole. The place counts from there. A
+// placing with more than one difference would not do: then it is place 0 with 2.
 pub fn find_sync(bits: &[u8]) -> Found
-    ensures { λ r. ⌜ r ≡ findSync (now (bits .entry)) ⌝ }
+    ensures { λ r. ⌜ r ≡ below 2 (findSync (now (bits .entry))) ⌝ }
 {
     if bits.len() < 216 {
-        return Found { pos: 0, dist: 38 };
+        return Found { pos: 0, dist: 2 };
     }
-    find_sequence(&bits[216..], &SEQ_SYNC)
+    find_below(&bits[216..], &SEQ_SYNC, 2)
 }
 
 impl Finding {
@@ -139,7 +148,7 @@ fn check_sequence(
         return Finding::not_found();
     }
     let end = bits.len() - burst_len + train_pos + train_bits.len();
-    let found = find_sequence(&bits[train_pos..end], train_bits);
+    let found = find_below(&bits[train_pos..end], train_bits, max_errs + 1);
     if found.dist <= max_errs {
         Finding {
             train_type,

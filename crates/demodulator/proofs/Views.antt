@@ -16,7 +16,8 @@ use Rattle.timing.specs.Tracking.{averagedOf, late, early}
 use Rattle.burst_finder.specs.declared.Found.{Found}
 use Rattle.burst_finder.specs.declared.SlotType.{SlotType}
 use Rattle.burst_finder.specs.declared.SlotType.the-variants as SlotType
-use Rattle.burst_finder.specs.Search.{findSync}
+use Rattle.burst_finder.specs.Search.{findSync, below}
+use Rattle.burst_finder.proofs.Turns.{below-close, below-far}
 use Rattle.burst_finder.proofs.Lock.{Placed}
 use Rattle.burst_finder.specs.Slots.{checkSlot, notFound, typeNumber}
 use Rattle.demodulator.specs.declared.Mode.{Mode}
@@ -80,12 +81,18 @@ module _ (s : Signal) (d n : ℕ) (w : Window) (read : Reads s d n w) (f : SlotB
 -- ---- a search window
 
 -- the place of the synchronization sequence, and its errors
-module _ (r : Receiver) (w : Window) (read : Reads (r .signal) 1024 256 w) (b : Found) (at : b ≡ findSync (take 510 (w .bits))) where
-  best : b ≡ findSync (bitsOf (r .signal) 1024 256)
-  best = at ∙ rw (read .bits)
+module _ (r : Receiver) (w : Window) (read : Reads (r .signal) 1024 256 w) (b : Found) (at : b ≡ below 2 (findSync (take 510 (w .bits)))) where
+  abbrev all : Found
+  all = findSync (bitsOf (r .signal) 1024 256)
 
-  pub found-place : b .pos ≤ 256
-  found-place = let p : Placed b = rw best (sync-placed (r .signal)) in omega (arith, p .place, p .most)
+  there : b ≡ below 2 all
+  there = at ∙ rw (read .bits)
+
+  best : b .dist ≤ 1 → b ≡ all
+  best h = below-close 1 b all there h
+
+  pub found-place : b .dist ≤ 1 → b .pos ≤ 256
+  found-place h = let p : Placed b = rw (best h) (sync-placed (r .signal)) in omega (arith, p .place, p .most)
 
   module _ (f : SlotBurstFinder) (empty : Finds f (take 510 (w .bits)) notFound) where
     -- the waiting slot loses its finding
@@ -96,7 +103,7 @@ module _ (r : Receiver) (w : Window) (read : Reads (r .signal) 1024 256 w) (b : 
         → _≡_ {A = Receiver} (record { mode = r .mode; clock = r .clock; lock = r .lock; slot = emptiedSlot (r .slot .time); next = r .next; signal = r .signal })
         (processPastSamples DlUnsynchronized r)
     unfolding processPastSamples searchWindow notFoundYet emptied
-    search-missed h = rw (is-searched (r .signal) 1024 256 w read f empty, ← best, lt-leb (b .dist) 1 h)
+    search-missed h = rw (is-searched (r .signal) 1024 256 w read f empty, lt-leb (all .dist) 1 (below-far 1 b all there h))
 
     pub search-found : (m : Mode) (z : ℤ) (e : Float) → b .dist ≤ 1 → m ≡ DlUnsynchronized
         → z ≡ r .clock .slotReadyTime -ℤ pos 2034 +ℤ pos (b .pos * 2) → e ≡ averagedOf zeroF (w .timing)
@@ -112,7 +119,7 @@ module _ (r : Receiver) (w : Window) (read : Reads (r .signal) 1024 256 w) (b : 
         (processPastSamples DlUnsynchronized r)
     unfolding processPastSamples searchWindow found emptied slotOf slotTiming
     search-found m z e h p q t =
-        rw (is-searched (r .signal) 1024 256 w read f empty, ← best, le-leb (b .dist) 1 h, found-reference (r .clock .slotReadyTime) b (rw best (sync-placed (r .signal))), p, q, t, read .timing)
+        rw (is-searched (r .signal) 1024 256 w read f empty, ← best h, le-leb (b .dist) 1 h, found-reference (r .clock .slotReadyTime) b (rw (best h) (sync-placed (r .signal))), p, q, t, read .timing)
 
 -- ---- a slot that is handed over
 

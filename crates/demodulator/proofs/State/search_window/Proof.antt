@@ -6,7 +6,7 @@ use lib.Dec.{lit≤, lit<}
 use lib.ListN.{take, length}
 use lib.Seq.{take-all}
 use lib.IntN.{pos, _+ℤ_, _-ℤ_}
-use Rattle.burst_finder.specs.Search.{findSync}
+use Rattle.burst_finder.specs.Search.{findSync, below}
 use Rattle.burst_finder.specs.Slots.{notFound}
 use Rattle.demodulator.specs.declared.State.{State}
 use Rattle.demodulator.specs.declared.window.Window.{Window}
@@ -38,12 +38,12 @@ window-read : (c : tie.After-find-sync) → Reads (receiver c .signal) 1024 256 
 window-read c = heard (self c) (start c .args .re .now) (start c .args .im .now) (start c .args .abs .now) (c .before .before .before .read-window .ensures)
 
 -- the array has the window's bits and no others
-searched : (c : tie.After-find-sync) → c .find-sync .result ≡ findSync (take 510 (window c .bits))
+searched : (c : tie.After-find-sync) → c .find-sync .result ≡ below 2 (findSync (take 510 (window c .bits)))
 searched c =
     let e : length (window c .bits) ≡ 510 = search needs in
     c .find-sync .ensures ∙ rw (take-all 510 (window c .bits) (omega arith))
 
-place : (c : tie.After-find-sync) → c .find-sync .result .pos ≤ 256
+place : (c : tie.After-find-sync) → c .find-sync .result .dist ≤ 1 → c .find-sync .result .pos ≤ 256
 place c = found-place (receiver c) (window c) (window-read c) (c .find-sync .result) (searched c)
 
 emptied : (c : tie.After-finder) → Finds (c .finder .result) (take 510 (window (c .before .before) .bits)) notFound
@@ -88,7 +88,7 @@ unfolding receiverOf
 found-time-requires c κs =
     let a = c .before .before .before .before .before in
     let h = start a .pre .0 .ready in
-    rw (read-within (wider (2 ^ 61) (lit≤ tt) h)) (h, place a)
+    rw (read-within (wider (2 ^ 61) (lit≤ tt) h)) (h, place a (c .before .if1 .left))
 
 averaged-requires : tie.Need-averaged-requires
 averaged-requires c κs = search needs
@@ -97,7 +97,7 @@ set-slot-requires : tie.Need-set-slot-requires
 unfolding receiverOf
 set-slot-requires c κs =
     let a = c .before .before .before .before .before .before .before in
-    rw (begins (c .before)) (wider (2 ^ 40) (lit≤ tt) (found-within (self a .«slot_ready_time» .0) (a .find-sync .result .pos) (start a .pre .0 .ready) (place a)), lit< tt)
+    rw (begins (c .before)) (wider (2 ^ 40) (lit≤ tt) (found-within (self a .«slot_ready_time» .0) (a .find-sync .result .pos) (start a .pre .0 .ready) (place a (c .before .before .before .if1 .left))), lit< tt)
 
 returns-2 : tie.Need-returns-2
 unfolding receiverOf withClock modeOf
