@@ -116,11 +116,14 @@ impl Demodulator {
         let full = take_view(self.full_slot, slot);
         let first = take_view(self.subslot1, subslot1);
         let second = take_view(self.subslot2, subslot2);
-        let mut receiver = self;
-        receiver.demodulated_slot_available = false;
+        let mut s = self.state();
+        s.demodulated_slot_available = false;
+        let re = self.past_re;
+        let im = self.past_im;
+        let abs = self.past_abs;
         Taken {
             answer: TakeAnswer::Slot(time, full, first, second),
-            receiver,
+            receiver: s.with_past(re, im, abs),
         }
     }
 }

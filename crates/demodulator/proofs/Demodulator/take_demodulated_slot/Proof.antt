@@ -1,10 +1,13 @@
 -- `Demodulator::take_demodulated_slot` meets its contract: a refusal changes nothing, and three views fill the slices.
 use mathlib.Core.Path.{_≡_, refl, sym, ap, _∙_}
+use mathlib.Core.Bool.{false}
 use Prim.Native.Nat.{ℕ}
+use lib.ListN.{length}
 use Rattle.dsp_types.specs.Refusals.{wrongLength}
 use Rattle.demodulator.specs.Calls.{takeRefusal, viewIn, burstView, numbersOf, taken}
-use Rattle.demodulator.specs.View.{viewOf, clockOf, signalOf}
+use Rattle.demodulator.specs.View.{viewOf}
 use Rattle.demodulator.proofs.Taking.{take-refused, unless-refused, unless-accepted, take-told, right-lengths}
+use Rattle.demodulator.proofs.Handing.{waiting, waiting-view}
 use borrow.Author.Needs.{needs}
 use Rattle.demodulator.proofs.Demodulator.take_demodulated_slot.Statement.{statement}
 use Rattle.demodulator.proofs.Demodulator.take_demodulated_slot.Tie as tie
@@ -38,8 +41,19 @@ take-view-requires-2 c κs = search needs
 take-view-requires-3 : tie.Need-take-view-requires-3
 take-view-requires-3 c κs = search needs
 
+-- the first slice keeps its length, told where little else is known yet
+slot-long : (c : tie.After-slice-known6) → let v = c .before .before .before .before .before .before .before .before .before .before in
+    length (v .take-view .last .1 .0) ≡ length (v .before .before .before .before .before .before .before .before .args .slot .now)
+slot-long c = search needs
+
+state-requires : tie.Need-state-requires
+state-requires c κs = search needs
+
+with-past-requires : tie.Need-with-past-requires
+with-past-requires c κs = search needs
+
 same-length : tie.Need-same-length
-same-length c = search needs
+same-length c = slot-long (c .before .before .before .before .before)
 
 same-length-2 : tie.Need-same-length-2
 same-length-2 c = search needs
@@ -48,9 +62,10 @@ same-length-3 : tie.Need-same-length-3
 same-length-3 c = search needs
 
 returns-2 : tie.Need-returns-2
-unfolding viewOf clockOf signalOf taken
+unfolding viewOf taken
 returns-2 c =
-    let v2 = c .before .before in
+    let k = c .before .before .before .before in
+    let v2 = k .before .before .before in
     let v1 = v2 .before .before .before .before in
     let v = v1 .before .before .before .before in
     let t = v .before .before .before .before in
@@ -64,7 +79,10 @@ returns-2 c =
           (v1 .take-view2 .ensures .0 ∙ ap (λ (k : ℕ). numbersOf (burstView k (r .slot .subslot1))) (n .1))
           (v2 .take-view3 .ensures .0 ∙ ap (λ (k : ℕ). numbersOf (burstView k (r .slot .subslot2))) (n .2)),
       (
-        unless-accepted e (taken r) r z,
+        c .with-past .ensures
+            ∙ waiting-view (k .state .result) (a .self .«past_re») (a .self .«past_im») (a .self .«past_abs») false
+            ∙ ap (waiting false) (k .state .ensures)
+            ∙ unless-accepted e (taken r) r z,
         (
           v .take-view .ensures .1 ∙ ap (λ (k : ℕ). viewIn k (r .slot .full)) (n .0) ∙ unless-accepted e _ (a .slot .now) z,
           (
@@ -84,6 +102,8 @@ take-demodulated-slot-spec =
     take-view-requires
     take-view-requires-2
     take-view-requires-3
+    state-requires
+    with-past-requires
     same-length
     same-length-2
     same-length-3
