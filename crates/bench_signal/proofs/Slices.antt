@@ -11,7 +11,7 @@ use Rattle.dsp_types.specs.Samples.{silence, ago}
 use Rattle.fir.specs.Fir.{filterOf, lineAfter, outsOf, samplesOf, blockOf, startWith}
 use Rattle.fir.proofs.Laws.{line-append, outs-append, length-outs, block-whole, start-set, start-part}
 use Rattle.fir.proofs.Rows.{rest}
-use Rattle.magnitude.specs.Magnitude.{magnitudeOf}
+use Rattle.magnitude.specs.Magnitude.{magnitudeOf, magnitudesIn}
 use Rattle.bench_signal.specs.Bench.{filteredOf, magnitudesOf}
 
 -- ---- the samples of two slices
@@ -130,22 +130,14 @@ module _ (re im : List Float) (i : ℕ) (v : i < length re) (w : i < length im) 
       (start-set (map f (filteredOf re im i)) out i (f (filterOf (ago silence (sample ∷ lineAt re im i))))
       (length-map (filteredOf re im i) f ∙ filtered-length i re im (omega arith) (omega arith)) h)
 
-  -- ---- the magnitude
-
-  magnitudes-sample : magnitudesOf re im (i + 1) ≡ magnitudesOf re im i ++ (magnitudeOf (getD re i nan) (getD im i nan) ∷ [])
-  unfolding magnitudesOf
-  magnitudes-sample =
-      ap (map (λ s. magnitudeOf (s .re) (s .im))) (take-add i 1 (samplesOf re im) ∙ ap (λ (l : List ComplexSample). take i (samplesOf re im) ++ l) (piece i 1 re im (omega arith) (omega arith) ∙ one))
-      ∙ map-append (λ s. magnitudeOf (s .re) (s .im)) (take i (samplesOf re im)) (sample ∷ [])
-
-  magnitudes-length : length (magnitudesOf re im i) ≡ i
-  unfolding magnitudesOf
-  magnitudes-length = length-map (take i (samplesOf re im)) _ ∙ length-take-le i (samplesOf re im) (reaches i re im (omega arith) (omega arith))
-
-  pub magnitude-written : (out : List Float) → i < length out
-      → set (startWith (magnitudesOf re im i) out) i (magnitudeOf (getD re i nan) (getD im i nan)) ≡ startWith (magnitudesOf re im (i + 1)) out
-  magnitude-written out h = rw (magnitudes-sample) (start-set (magnitudesOf re im i) out i _ magnitudes-length h)
-
-pub no-magnitudes : (re im out : List Float) → out ≡ startWith (magnitudesOf re im 0) out
-unfolding magnitudesOf startWith
-no-magnitudes re im out = refl
+-- ---- the magnitudes, as many as there is room for
+pub magnitudes-start : (n : ℕ) (re im out : List Float) → n ≡ min (min (length re) (length im)) (length out) → magnitudesIn re im out ≡ startWith (magnitudesOf re im n) out
+unfolding magnitudesIn magnitudesOf samplesOf startWith
+magnitudes-start zero [] im out e = refl
+magnitudes-start (suc n) [] im out e = absurd (omega arith)
+magnitudes-start zero (x ∷ re) [] out e = refl
+magnitudes-start (suc n) (x ∷ re) [] out e = absurd (omega arith)
+magnitudes-start zero (x ∷ re) (y ∷ im) [] e = refl
+magnitudes-start (suc n) (x ∷ re) (y ∷ im) [] e = absurd (omega arith)
+magnitudes-start zero (x ∷ re) (y ∷ im) (o ∷ out) e = absurd (omega arith)
+magnitudes-start (suc n) (x ∷ re) (y ∷ im) (o ∷ out) e = ap (λ (l : List Float). magnitudeOf x y ∷ l) (magnitudes-start n re im out (omega arith))

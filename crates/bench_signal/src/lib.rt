@@ -85,10 +85,7 @@ pub extern "C" fn bench_magnitude(re: &[f32], im: &[f32], out: &mut [f32])
     ensures { λ _. ⌜
         now (out .exit) ≡ startWith (magnitudesOf (now (re .entry)) (now (im .entry)) (roomOf (now (re .entry)) (now (im .entry)) (now (out .entry)) (now (out .entry)))) (now (out .entry)) ⌝ }
 {
-    let n = room(re.len(), im.len(), out.len(), out.len());
-    for i in 0..n {
-        out[i] = magnitude::magnitude(re[i], im[i]);
-    }
+    magnitude::magnitudes(re, im, out);
 }
 
 // Slot 0 from a new sender, one call a sample: as many samples as there is room for, re and im in turn, or up to the first

@@ -57,7 +57,7 @@ module _ (e f : ℕ) (F : f ≤ e) where
   high m n g h = rw (scaled g, squares m n) (cut-high (m * m) (n * n) (gap e f) (unit f) (g * g) (pow-pos (2 * (e - f))) (mul-pos (pow-pos f) (pow-pos f)) h)
 
 -- ---- the parts' patterns a and b
-pub significand-lt : (p : ℕ) → significandOf p < 2 ^ 24
+significand-lt : (p : ℕ) → significandOf p < 2 ^ 24
 significand-lt p = omega arith
 
 -- the smaller part's square has 48 digits at most, and the root 25
@@ -73,7 +73,7 @@ normal a s g lo hi =
     let l : significandOf a < g + 1 = root-lt (significandOf a) (g + 1) (lt-of-le-of-lt lo hi) in
     elim (eq-zero-or-pos (exponentOf a)) [ inl z ↦ inr z | inr p ↦ inl (omega arith) ]
 
-pub aligned : (a b g : ℕ) → b ≤ a → a < 0x7f80_0000 → (let s = square (significandOf a) + square (significandOf b) / gap (exponentOf a) (exponentOf b) in (square g ≤ s) × (s < square (g + 1)))
+aligned : (a b g : ℕ) → b ≤ a → a < 0x7f80_0000 → (let s = square (significandOf a) + square (significandOf b) / gap (exponentOf a) (exponentOf b) in (square g ≤ s) × (s < square (g + 1)))
     → packedOf (exponentOf a) g ≡ largest (square (sized a) + square (sized b))
 aligned a b g h l r =
     let e = exponentOf a in

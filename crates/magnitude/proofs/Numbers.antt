@@ -1,6 +1,5 @@
 -- Products and squares of natural numbers. Assumes nothing.
-use mathlib.Core.Path.{_≡_}
-use Prim.Native.Nat.{ℕ, _+_, _-_, _*_, _^_, _≤_, _<_, zero-le}
+use Prim.Native.Nat.{ℕ, _+_, _*_, _^_, _≤_, _<_, zero-le}
 use native.Mathlib.Nat.{le-of-lt, lt-of-le-of-lt, lt-of-not-le, lt-of-lt-of-le, not-le-of-lt, mul-le-mul, mul-le-mul-left, mul-lt-mul-of-pos-right}
 use native.Mathlib.Omega.{arith}
 use lib.Dec.{lit≤}
@@ -22,9 +21,6 @@ small-square a h = lt-of-lt-of-le (product-lt 25 h h) (lit≤ tt)
 pub sum-lt-49 : (m z : ℕ) → m < 2 ^ 24 → z < 2 ^ 48 → m * m + z < 2 ^ 49
 sum-lt-49 m z h k = let l : m * m < 2 ^ 48 = product-lt 24 h h in omega arith
 
--- one less than a number whose square is above s
+-- a number whose square is above s
 pub root-pos : (s g : ℕ) → s < g * g → 0 < g
 root-pos s g h = root-lt 0 g (lt-of-le-of-lt zero-le h)
-
-pub one-less : (s g : ℕ) → s < g * g → s < (g - 1 + 1) * (g - 1 + 1)
-one-less s g h = let again : g - 1 + 1 ≡ g = omega (arith, root-pos s g h) in rw again h

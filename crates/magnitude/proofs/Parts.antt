@@ -7,7 +7,7 @@ use native.Mathlib.Omega.{arith}
 use mathlib.Core.Bool.{Bool, true, false, not, _&&_, cond, true≢false}
 use lib.Dec.{T, leb}
 use borrow.Author.Tests.{le-ltb}
-use lib.Ieee.{Float, nan, inf, fin, binary32, binary64, eq, ne, isNan, nanBits, fits, ofBits, toBits}
+use lib.Ieee.{Float, nan, inf, fin, binary32, binary64, lt, ne, isNan, nanBits, fits, ofBits, toBits}
 use lib.Ieee.Bits.{ofBits-toBits, nanBits-above, is-false}
 use lib.Ieee.Compare.{differs-from-itself}
 use lib.Ieee.Scale.{finite}
@@ -26,11 +26,11 @@ not-nan nan e = subst T e tt
 not-nan (inf s) e = tt
 not-nan (fin s m e') e = tt
 
-pub same-not-nan : (x : Float) → eq x x ≡ true → T (not (isNan x))
-unfolding eq isNan
-same-not-nan nan e = absurd (true≢false (sym e))
-same-not-nan (inf s) e = tt
-same-not-nan (fin s m e') e = tt
+pub below-not-nan : (x y : Float) → lt x y ≡ true → T (not (isNan x))
+unfolding lt isNan
+below-not-nan nan y e = absurd (true≢false (sym e))
+below-not-nan (inf s) y e = tt
+below-not-nan (fin s m k) y e = tt
 
 pub not-nan-pattern : (p : ℕ) → p < 0x7ff0_0000_0000_0000 → T (not (nanBits binary64 p))
 not-nan-pattern p h =
@@ -79,7 +79,7 @@ pub two-numbers : (re im : Float) → finite re ≡ true → finite im ≡ true 
 unfolding magnitudeOf
 two-numbers re im a b = simp (a, b)
 
-not-nan-bits : (p : ℕ) → p < 0x7f80_0000 → T (not (nanBits binary32 p))
+pub not-nan-bits : (p : ℕ) → p < 0x7f80_0000 → T (not (nanBits binary32 p))
 not-nan-bits p h =
     let m : p % 0x8000_0000 ≡ p = omega arith in
     rw (nanBits-above, m, le-ltb 0x7f80_0000 p (omega arith)) tt

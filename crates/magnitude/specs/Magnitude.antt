@@ -2,6 +2,7 @@
 -- Every finite f32 is a whole number of units of 2 ^ -149, the smallest positive one, so the squares are compared as whole numbers.
 use Prim.Native.Nat.{ℕ, zero, suc, _+_, _*_, _/_, _^_}
 use mathlib.Core.Bool.{Bool, _&&_, cond}
+use mathlib.Core.List.{List, [], _∷_}
 use lib.Dec.{leb, ltb}
 use lib.Ieee.{Float, nan, inf, fin, binary32, up, down, ofBits}
 use lib.Ieee.Scale.{finite}
@@ -34,3 +35,10 @@ largest n = raised (under n) 31 0
 unfoldable pub magnitudeOf : Float → Float → Float
 unfolding largest units ofBits
 magnitudeOf re im = cond (finite re && finite im) (ofBits binary32 (largest (square (units re) + square (units im)))) (ofBits binary32 0)
+
+-- the magnitudes of samples (01, "The past") at the start of a buffer, as far as it and both lists of parts go; what is behind them stays
+unfoldable pub magnitudesIn : List Float → List Float → List Float → List Float
+magnitudesIn [] im out = out
+magnitudesIn (x ∷ re) [] out = out
+magnitudesIn (x ∷ re) (y ∷ im) [] = []
+magnitudesIn (x ∷ re) (y ∷ im) (o ∷ out) = magnitudeOf x y ∷ magnitudesIn re im out

@@ -1,5 +1,5 @@
 -- How a bit pattern below 0x7f80_0000, a finite f32 that is not negative, stands for a whole number of units. The contracts of private functions cite this. Definitions only.
-use Prim.Native.Nat.{ℕ, _+_, _-_, _*_, _/_, _%_, _^_, _≤_, _<_, min}
+use Prim.Native.Nat.{ℕ, _+_, _-_, _*_, _/_, _%_, _^_, min}
 use mathlib.Core.Bool.{cond}
 use lib.Dec.{ltb}
 use lib.Ieee.{Float, binary32, isNan, toBits}
@@ -23,9 +23,3 @@ sized p = significandOf p * 2 ^ exponentOf p
 -- the largest pattern that stands for at most g · 2 ^ e units, for a g below 2 ^ 25, and of 2 ^ 23 at least where e is above 0
 abbrev pub packedOf : ℕ → ℕ → ℕ
 packedOf e g = min (cond (ltb g 0x100_0000) (e * 0x80_0000 + g) ((e + 1) * 0x80_0000 + g / 2)) 0x7f7f_ffff
-
--- p has the exponent e or e + 1, and its significand is the whole part of the square root of s units of 4 ^ e, in units of its own exponent
-abbrev pub RootAt : ℕ → ℕ → ℕ → Type 0
-RootAt e p s =
-    (let t = s / 2 ^ (2 * (exponentOf p - e)) in
-    (e ≤ exponentOf p) × (exponentOf p ≤ e + 1) × (significandOf p * significandOf p ≤ t) × (t < (significandOf p + 1) * (significandOf p + 1)))

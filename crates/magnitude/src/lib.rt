@@ -1,11 +1,13 @@
 // The stand-in for `abs()` (01, "The past"): the magnitude of a complex sample, cut to an f32.
 ghost use mathlib.Core.Path.{_≡_};
-ghost use mathlib.Core.Bool.{true, not};
+ghost use mathlib.Core.Bool.{false, not};
+ghost use mathlib.Core.Logic.{_⊎_};
 ghost use lib.Dec.{T};
-ghost use lib.Ieee.{binary64, isNan, toBits};
-ghost use Prim.Native.Nat.{_+_, _-_, _*_, _/_, _^_, _<_, _≤_, min, max};
-ghost use Rattle.magnitude.specs.Magnitude.{magnitudeOf, largest, square};
-ghost use Rattle.magnitude.specs.Pattern.{sizeOf, exponentOf, significandOf, sized, packedOf, RootAt};
+ghost use lib.Ieee.{nan, binary32, binary64, isNan, lt, ofBits, toBits};
+ghost use lib.ListN.{length, getD};
+ghost use Prim.Native.Nat.{ℕ, _+_, _*_, _/_, _^_, _<_, _≤_, min, max};
+ghost use Rattle.magnitude.specs.Magnitude.{magnitudeOf, magnitudesIn, largest, square};
+ghost use Rattle.magnitude.specs.Pattern.{sizeOf, exponentOf, significandOf, sized, packedOf};
 
 // The bit pattern of x without its sign.
 fn size(x: f32) -> u32
@@ -115,6 +117,42 @@ fn larger_first(a: u32, b: u32) -> u32
     packed(e, root(m, z))
 }
 
+// The pattern of the magnitude from those of its parts; 0 where a part is infinite.
+fn pattern(x: u32, y: u32) -> u32
+    ensures { λ r. ⌜ (max x y < 0x7f80_0000 → r ≡ largest (square (sized x) + square (sized y))) × (0x7f80_0000 ≤ max x y → r ≡ 0) ⌝ }
+{
+    if x >= 0x7f80_0000 {
+        return 0;
+    }
+    if y >= 0x7f80_0000 {
+        return 0;
+    }
+    if x < y {
+        return larger_first(y, x);
+    }
+    larger_first(x, y)
+}
+
+// The magnitude by whole numbers, for any parts: where the quick test does not tell it.
+fn exact(re: f32, im: f32) -> f32
+    ensures { λ r. ⌜ r ≡ magnitudeOf re im ⌝ }
+{
+    if re != re {
+        return 0.0;
+    }
+    if im != im {
+        return 0.0;
+    }
+    f32::from_bits(pattern(size(re), size(im)))
+}
+
+// x, or 2^127 where it is NaN or not below that: there the test of `quick` fails.
+fn capped(x: f32) -> f32
+    ensures { λ r. ⌜ T (not (isNan r)) × ((r ≡ x) ⊎ (r ≡ ofBits binary32 0x7f00_0000)) ⌝ }
+{
+    if x < 1.7014118e38 { x } else { 1.7014118e38 }
+}
+
 // A guess at √x, 3.5% off at most: half the exponent, and a chord for the significand.
 fn rough_root(x: f64) -> f64
     requires { ⌜ T (not (isNan x)) × (toBits binary64 x < 0x8000_0000_0000_0000) ⌝ }
@@ -131,117 +169,90 @@ fn twice_root(x: f64, r: f64) -> f64 {
     (n * n + x * (d * d)) / (n * d)
 }
 
-// Twice the magnitude, guessed: nothing is proved of it.
-fn twice_magnitude(re: f32, im: f32) -> f64
-    requires { ⌜ T (not (isNan re)) × T (not (isNan im)) ⌝ }
-{
-    let x = re as f64;
-    let y = im as f64;
-    let s = x * x + y * y;
-    twice_root(s, rough_root(s))
-}
-
-// The pattern of x / 2 cut to an f32. A root that is one exactly may have come out 2^-52 too small, so x is raised by 2^-46.
+// The pattern of x / 2 cut to an f32, for an x whose half is a normal one.
 fn half_pattern(x: f64) -> u32
     requires { ⌜ T (not (isNan x)) ⌝ }
 {
-    let raised = f64::to_bits(x) % 0x4000_0000_0000_0000 + 0x07f0_0000_0000_0040;
-    ((raised >> 29) % 0x1_0000_0000) as u32
+    let moved = f64::to_bits(x) % 0x4000_0000_0000_0000 + 0x07f0_0000_0000_0000;
+    ((moved >> 29) % 0x1_0000_0000) as u32
 }
 
-// The sum of the parts' squares in units of 4^e, e being the larger part's exponent, cut to a whole number. From 2^-101
-// on for the larger part, the smaller one is normal or too small to count.
-fn cut_sum(a: u32, b: u32) -> u64
-    requires { ⌜ (b ≤ a) × (0x0d00_0000 ≤ a) ⌝ }
-    ensures { λ r. ⌜ r ≡ square (significandOf a) + square (significandOf b) / 2 ^ (2 * (exponentOf a - exponentOf b)) ⌝ }
+// x, or 1e300 where it is NaN or not below that: NaN has no pattern.
+fn number(x: f64) -> f64
+    ensures { λ r. ⌜ T (not (isNan r)) ⌝ }
 {
-    let gap = a / 0x80_0000 - b / 0x80_0000;
-    let m = 0x80_0000 + (a % 0x80_0000) as u64;
-    let n = 0x80_0000 + (b % 0x80_0000) as u64;
-    let z = if gap < 26 { (n * n) >> (2 * gap) } else { 0 };
-    m * m + z
+    if x < 1.0e300 { x } else { 1.0e300 }
 }
 
-// Whether p, of the exponent e of a or the next, is the pattern of the square root of s units of 4^e.
-fn is_root(p: u32, a: u32, s: u64) -> bool
-    requires { ⌜ 0x80_0000 ≤ a ⌝ }
-    ensures { λ r. ⌜ (r ≡ true → RootAt (exponentOf a) p s) ⌝ }
+// p, or 0 where it is not below the pattern of 2^127: so the next is a number's too.
+fn capped_pattern(p: u32) -> u32
+    ensures { λ r. ⌜ r < 0x7f00_0000 ⌝ }
 {
-    let e = a / 0x80_0000;
-    let f = p / 0x80_0000;
-    if f < e {
-        return false;
-    }
-    let up = f - e;
-    if up > 1 {
-        return false;
-    }
-    let t = s >> (2 * up);
-    let m = 0x80_0000 + (p % 0x80_0000) as u64;
-    let q = m * m;
-    if t < q {
-        return false;
-    }
-    if t - q > 2 * m {
-        return false;
-    }
-    true
+    if p < 0x7f00_0000 { p } else { 0 }
 }
 
-// Whether p is known to be the magnitude's pattern: for a larger part from 2^-101 to 2^127, where few steps tell.
-fn is_magnitude(p: u32, a: u32, b: u32) -> bool
-    requires { ⌜ b ≤ a ⌝ }
-    ensures { λ r. ⌜ (r ≡ true → (a < 0x7f80_0000) × (p ≡ largest (square (sized a) + square (sized b)))) ⌝ }
+// The magnitude where a test in f64 tells it, else -1.0. A part's square is an f64, and rounding keeps the order: where the
+// rounded sum lies between the squares of an f32 and the next, so does the exact one. Nothing is proved of the guess r; all
+// but one in 10,000 pass, and none that is the root exactly. There is no branch, so that a block is vectorised.
+fn quick(re: f32, im: f32) -> f32
+    ensures { λ r. ⌜ (lt r (ofBits binary32 0) ≡ false → r ≡ magnitudeOf re im) ⌝ }
 {
-    if a < 0x0d00_0000 {
-        return false;
+    let x = capped(re) as f64;
+    let y = capped(im) as f64;
+    let s = x * x + y * y;
+    let p = capped_pattern(half_pattern(number(twice_root(s, rough_root(s)))));
+    let r = f32::from_bits(p);
+    let low = r as f64;
+    let high = f32::from_bits(p + 1) as f64;
+    if (low * low < s) & (s < high * high) {
+        r
+    } else {
+        -1.0
     }
-    if a >= 0x7f00_0000 {
-        return false;
-    }
-    is_root(p, a, cut_sum(a, b))
-}
-
-// The parts by size. As in `root` and `packed`, a choice that samples make at random is compiled without a branch.
-fn larger(a: u32, b: u32) -> u32
-    ensures { λ r. ⌜ r ≡ max a b ⌝ }
-{
-    if a < b { b } else { a }
-}
-
-fn smaller(a: u32, b: u32) -> u32
-    ensures { λ r. ⌜ r ≡ min a b ⌝ }
-{
-    if a < b { a } else { b }
-}
-
-// The magnitude's pattern, or 0 where a part is infinite: the guess where it passes, as all but one in 10,000 do.
-fn pattern(x: u32, y: u32, twice: f64) -> u32
-    ensures { λ r. ⌜ (max x y < 0x7f80_0000 → r ≡ largest (square (sized x) + square (sized y))) × (0x7f80_0000 ≤ max x y → r ≡ 0) ⌝ }
-{
-    let a = larger(x, y);
-    let b = smaller(x, y);
-    if twice == twice {
-        let p = half_pattern(twice);
-        if is_magnitude(p, a, b) {
-            return p;
-        }
-    }
-    if a >= 0x7f80_0000 {
-        return 0;
-    }
-    larger_first(a, b)
 }
 
 // The largest f32 whose square is not above re² + im²; 0.0 where a part is NaN or infinite.
 pub fn magnitude(re: f32, im: f32) -> f32
     ensures { λ r. ⌜ r ≡ magnitudeOf re im ⌝ }
 {
-    if re != re {
-        return 0.0;
+    let r = quick(re, im);
+    if r < 0.0 {
+        return exact(re, im);
     }
-    if im != im {
-        return 0.0;
+    r
+}
+
+// Whether some value is below 0. It looks at every one, so that the compiler can take many at once.
+fn any_below(xs: &[f32]) -> bool
+    ensures { λ r. ⌜ (r ≡ false → (k : ℕ) → k < length (now (xs .entry)) → lt (getD (now (xs .entry)) k nan) (ofBits binary32 0) ≡ false) ⌝ }
+{
+    let mut found = false;
+    for i in 0..xs.len() {
+        found = found | (xs[i] < 0.0);
     }
-    f32::from_bits(pattern(size(re), size(im), twice_magnitude(re, im)))
+    found
+}
+
+// The smaller of two lengths.
+fn least(a: usize, b: usize) -> usize
+    ensures { λ r. ⌜ r ≡ min a b ⌝ }
+{
+    if a < b { a } else { b }
+}
+
+// The magnitudes of samples, as many as all three slices have room for. What is behind them in `out` stays.
+pub fn magnitudes(re: &[f32], im: &[f32], out: &mut [f32])
+    ensures { λ _. ⌜ now (out .exit) ≡ magnitudesIn (now (re .entry)) (now (im .entry)) (now (out .entry)) ⌝ }
+{
+    let n = least(least(re.len(), im.len()), out.len());
+    for i in 0..n {
+        out[i] = quick(re[i], im[i]);
+    }
+    if any_below(&out[..n]) {
+        for i in 0..n {
+            if out[i] < 0.0 {
+                out[i] = exact(re[i], im[i]);
+            }
+        }
+    }
 }

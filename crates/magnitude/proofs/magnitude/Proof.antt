@@ -1,55 +1,19 @@
--- `magnitude::magnitude` meets its contract: the sizes tell which parts are numbers, and `pattern` finds the largest. Assumes nothing.
-use mathlib.Core.Path.{_≡_, sym, subst}
-use mathlib.Core.Bool.{not}
-use lib.Dec.{T}
-use lib.Ieee.{binary32, fits, nanBits, ofBits}
+-- `magnitude::magnitude` meets its contract: what `quick` tells, and else `exact`. Assumes nothing.
 use borrow.Author.Needs.{needs}
-use Rattle.magnitude.specs.Magnitude.{magnitudeOf}
-use Rattle.magnitude.proofs.Parts.{nan-no-number, not-nan, zero-first, zero-second, two-sizes}
 use Rattle.magnitude.proofs.magnitude.Statement.{statement}
 use Rattle.magnitude.proofs.magnitude.Tie as tie
 
--- what owning an `f32` tells: the format holds it
-re-held : (c : tie.Start) → T (fits binary32 (c .args .re))
-re-held c = subst T (sym (c .good .0 .1)) tt
+quick-requires : tie.Need-quick-requires
+quick-requires c κs = search needs
 
-im-held : (c : tie.Start) → T (fits binary32 (c .args .im))
-im-held c = subst T (sym (c .good .1 .0 .1)) tt
+exact-requires : tie.Need-exact-requires
+exact-requires c κs = search needs
 
 returns : tie.Need-returns
-returns c = sym (zero-first (c .before .args .re) (c .before .args .im) (nan-no-number (c .before .args .re) (c .if1 .taken)))
+returns c = search needs
 
 returns-2 : tie.Need-returns-2
-returns-2 c =
-    let s = c .before .before in
-    sym (zero-second (s .args .re) (s .args .im) (nan-no-number (s .args .im) (c .if2 .taken)))
-
-size-requires : tie.Need-size-requires
-size-requires c κs = not-nan _ (c .before .if1 .left)
-
-size-requires-2 : tie.Need-size-requires-2
-size-requires-2 c κs = not-nan _ (c .before .if2 .left)
-
-twice-magnitude-requires : tie.Need-twice-magnitude-requires
-twice-magnitude-requires c κs =
-    let t = c .before .before in
-    (not-nan _ (t .before .if1 .left), not-nan _ (t .if2 .left))
-
-pattern-requires : tie.Need-pattern-requires
-pattern-requires c κs = search needs
-
--- what the calls give
-given : (c : tie.After-pattern) → (let x = c .before .before .before .before .before .before .args in T (not (nanBits binary32 (c .pattern .result))) × (ofBits binary32 (c .pattern .result) ≡ magnitudeOf (x .re) (x .im)))
-given c =
-    let t = c .before .before in
-    let s = t .before .before .before .before in
-    two-sizes (s .args .re) (s .args .im) (c .pattern .result) (re-held s) (im-held s) (rw (t .before .size .ensures, t .size2 .ensures) at (c .pattern .ensures))
-
-float-from-bits-result : tie.Need-float-from-bits-result
-float-from-bits-result c = given c .0
-
-returns-3 : tie.Need-returns-3
-returns-3 c = given c .1
+returns-2 c = c .before .quick .ensures (c .if1 .left)
 
 pub magnitude-spec : {M : Type 1} → statement M
-magnitude-spec = tie.close (tie.spec returns returns-2 size-requires size-requires-2 twice-magnitude-requires pattern-requires float-from-bits-result returns-3)
+magnitude-spec = tie.close (tie.spec quick-requires exact-requires returns returns-2)
