@@ -11,7 +11,7 @@ use lib.Ieee.{Float, nan}
 use Rattle.dsp_types.specs.declared.ComplexSample.{ComplexSample}
 use Rattle.dsp_types.specs.Refusals.{beyond}
 use Rattle.fir.specs.Fir.{lineAfter, outsOf, samplesOf, blockOf, startWith, reOf, imOf}
-use Rattle.magnitude.specs.Magnitude.{magnitudeOf}
+use Rattle.magnitude.specs.Magnitude.{magnitudeOf, magnitudesIn}
 use Rattle.history.specs.History.{heldIn, samplesIn, heldAfter}
 use Rattle.history.proofs.Laws.{samples-after}
 use Rattle.demodulator.specs.Signal.{Signal}
@@ -76,25 +76,12 @@ split-one parts re im at n h k l f s =
 
 -- ---- magnitudes
 
-magnitudes-snoc : (n : ℕ) (re im : List Float) → n < length re → n < length im
-    → magnitudesOf (samplesOf (take (suc n) re) (take (suc n) im)) ≡ magnitudesOf (samplesOf (take n re) (take n im)) ++ (magnitudeOf (getD re n nan) (getD im n nan) ∷ [])
-unfolding magnitudesOf samplesOf
-magnitudes-snoc n [] im h k = absurd (omega arith)
-magnitudes-snoc n (a ∷ re) [] h k = absurd (omega arith)
-magnitudes-snoc zero (a ∷ re) (b ∷ im) h k = refl
-magnitudes-snoc (suc n) (a ∷ re) (b ∷ im) h k = ap (λ (t : List Float). magnitudeOf a b ∷ t) (magnitudes-snoc n re im (omega arith) (omega arith))
-
-pub no-magnitude : (re im abs : List Float) → take 0 abs ≡ magnitudesOf (samplesOf (take 0 re) (take 0 im))
-unfolding magnitudesOf samplesOf
-no-magnitude re im abs = refl
-
-pub one-magnitude : (n : ℕ) (re im abs : List Float) (m : Float) → n < length re → n < length im → n < length abs → m ≡ magnitudeOf (getD re n nan) (getD im n nan)
-    → take n abs ≡ magnitudesOf (samplesOf (take n re) (take n im)) → take (n + 1) (set abs n m) ≡ magnitudesOf (samplesOf (take (n + 1) re) (take (n + 1) im))
-one-magnitude n re im abs m h k l e s = rw (add-one n, written n abs m l, s, magnitudes-snoc n re im h k, e)
-
-pub all-magnitudes : (n : ℕ) (re im abs : List Float) → n ≡ length re → length re ≡ length im → take n abs ≡ magnitudesOf (samplesOf (take n re) (take n im))
-    → take (length re) abs ≡ magnitudesOf (samplesOf re im)
-all-magnitudes n re im abs e f s = rw (← e) (s ∙ rw (take-all n re (omega arith), take-all n im (omega arith)))
+pub sized : (re im out : List Float) → length re ≡ length im → length re ≤ length out → take (length re) (magnitudesIn re im out) ≡ magnitudesOf (samplesOf re im)
+unfolding magnitudesIn magnitudesOf samplesOf
+sized [] im out e h = refl
+sized (x ∷ re) [] out e h = absurd (omega (arith, e))
+sized (x ∷ re) (y ∷ im) [] e h = absurd (omega arith)
+sized (x ∷ re) (y ∷ im) (o ∷ out) e h = ap (λ (t : List Float). magnitudeOf x y ∷ t) (sized re im out (omega (arith, e)) (omega arith))
 
 -- ---- the block that is filtered
 

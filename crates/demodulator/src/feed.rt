@@ -15,12 +15,12 @@ ghost use mathlib.Core.Path.{_≡_};
 ghost use mathlib.Core.Bool.{false};
 ghost use mathlib.Core.List.{_++_};
 ghost use Prim.Native.Nat.{_+_, _*_, _/_, _<_, _≤_, min};
-ghost use lib.ListN.{length, take, drop};
+ghost use lib.ListN.{length, drop};
 ghost use Rattle.demodulator.specs.Calls.{accept};
 ghost use Rattle.demodulator.specs.Windows.{acceptWindows};
 ghost use Rattle.demodulator.specs.Feed.{interleaved, handsOver, feedOf};
 ghost use Rattle.fir.specs.Fir.{samplesOf};
-ghost use Rattle.demodulator.specs.Quiet.{keepAll, magnitudesOf, anyBeyond, firstOf, Quiet};
+ghost use Rattle.demodulator.specs.Quiet.{keepAll, anyBeyond, firstOf, Quiet};
 ghost use Rattle.demodulator.specs.View.{receiverOf, viewOf};
 ghost use Rattle.demodulator.specs.Bounds.{Accepts};
 
@@ -99,18 +99,6 @@ fn parts_of(samples: &[f32], at: usize, most: usize, re: &mut [f32], im: &mut [f
     len
 }
 
-// The magnitudes of samples, and zeros behind them.
-fn magnitudes(re: &[f32], im: &[f32]) -> [f32; 1024]
-    requires { ⌜ (length (now re) ≡ length (now im)) × (length (now re) ≤ 1024) ⌝ }
-    ensures { λ r. ⌜ take (length (now (re .entry))) r ≡ magnitudesOf (samplesOf (now (re .entry)) (now (im .entry))) ⌝ }
-{
-    let mut abs = [0.0f32; 1024];
-    for i in 0..re.len() {
-        abs[i] = magnitude::magnitude(re[i], im[i]);
-    }
-    abs
-}
-
 impl State {
     // Samples that are only kept: filter, magnitudes and rings, each over the whole block.
     fn keep_all(
@@ -130,7 +118,8 @@ impl State {
         let mut out_im = [0.0f32; 1024];
         let line = self.matched_filter;
         let next_line = line.block(x, y, &mut out_re, &mut out_im);
-        let sizes = magnitudes(&out_re[..n], &out_im[..n]);
+        let mut sizes = [0.0f32; 1024];
+        magnitude::magnitudes(&out_re[..n], &out_im[..n], &mut sizes);
         let at = self.past_index;
         let count = SampleCount(next);
         history::store(re, at, &out_re[..n]);

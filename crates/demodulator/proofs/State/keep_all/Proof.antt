@@ -1,5 +1,5 @@
 -- `State::keep_all` meets its contract: filter, magnitudes and rings, each by its own equation.
-use mathlib.Core.Path.{_≡_, refl, sym, _∙_}
+use mathlib.Core.Path.{_≡_, refl, sym, ap, _∙_}
 use mathlib.Core.List.{List}
 use native.Mathlib.Omega.{arith}
 use lib.ListN.{length, take, replicate, length-replicate}
@@ -11,7 +11,7 @@ use Rattle.dsp_types.specs.Samples.{zeroF}
 use Rattle.fir.specs.Fir.{lineOf, lineAfter, blockOf, outsOf, samplesOf, reOf, imOf}
 use Rattle.demodulator.specs.Quiet.{keepAll, magnitudesOf}
 use Rattle.demodulator.specs.View.{receiverOf}
-use Rattle.demodulator.proofs.Rows.{whole-block, re-count, im-count, abs-count, re-out, im-out, abs-out, heard-rows}
+use Rattle.demodulator.proofs.Rows.{whole-block, sized, re-count, im-count, abs-count, re-out, im-out, abs-out, heard-rows}
 use borrow.Author.Needs.{needs}
 use Rattle.demodulator.proofs.State.keep_all.Statement.{statement}
 use Rattle.demodulator.proofs.State.keep_all.Tie as tie
@@ -78,21 +78,25 @@ array-share-prefix-out-im c = search needs
 slice-aggregate-magnitudes-2 : tie.Need-slice-aggregate-magnitudes-2
 slice-aggregate-magnitudes-2 c = sym (im-long (c .before .before .before .before))
 
+slice-aggregate-magnitudes-3 : tie.Need-slice-aggregate-magnitudes-3
+slice-aggregate-magnitudes-3 c = search needs
+
 magnitudes-requires : tie.Need-magnitudes-requires
-magnitudes-requires c κs =
-    let b = c .before .before .before .before in
-    (re-long b ∙ sym (im-long b), omega (arith, re-long b, start b .pre .1))
+magnitudes-requires c κs = search needs
 
 abbrev filtered : tie.After-magnitudes → tie.After-block
-filtered c = c .before .before .before .before .before
+filtered c = c .before .before .before .before .before .before
 
-abs-is : (c : tie.After-magnitudes) → take (length (xs (filtered c))) (c .magnitudes .result) ≡ magnitudesOf (outs (filtered c))
+abs-is : (c : tie.After-magnitudes) → take (length (xs (filtered c))) (c .magnitudes .last .1 .1 .0) ≡ magnitudesOf (outs (filtered c))
 abs-is c =
     let b = filtered c in
     let n = length (xs b) in
-    abs-out (line b) (xs b) (ys b) n refl (same-long b) (take n (b .block .last .1 .1 .1 .0)) (take n (b .block .last .1 .1 .1 .1 .0)) (take n (c .magnitudes .result)) (outs-re b) (outs-im b) (rw (re-long b) at (c .magnitudes .ensures))
+    let re = take n (b .block .last .1 .1 .1 .0) in
+    let im = take n (b .block .last .1 .1 .1 .1 .0) in
+    let e = ap (take (length re)) (c .magnitudes .ensures) ∙ sized re im (replicate 1024 zeroF) (re-long b ∙ sym (im-long b)) (omega (arith, re-long b, start b .pre .1, length-replicate 1024 zeroF)) in
+    abs-out (line b) (xs b) (ys b) n refl (same-long b) re im (take n (c .magnitudes .last .1 .1 .0)) (outs-re b) (outs-im b) (rw (re-long b) at e)
 
-abs-long : (c : tie.After-magnitudes) → length (take (length (xs (filtered c))) (c .magnitudes .result)) ≡ length (xs (filtered c))
+abs-long : (c : tie.After-magnitudes) → length (take (length (xs (filtered c))) (c .magnitudes .last .1 .1 .0)) ≡ length (xs (filtered c))
 abs-long c =
     let b = filtered c in
     rw (abs-is c) (abs-count (line b) (xs b) (ys b) (length (xs b)) refl (same-long b))
@@ -101,7 +105,7 @@ array-share-prefix-out-re-2 : tie.Need-array-share-prefix-out-re-2
 array-share-prefix-out-re-2 c = search needs
 
 slice-aggregate-store : tie.Need-slice-aggregate-store
-slice-aggregate-store c = sym (re-long (filtered (c .before .before)))
+slice-aggregate-store c = sym (re-long (filtered (c .before .before .before)))
 
 store-requires : tie.Need-store-requires
 store-requires c κs = search needs
@@ -110,7 +114,7 @@ array-share-prefix-out-im-2 : tie.Need-array-share-prefix-out-im-2
 array-share-prefix-out-im-2 c = search needs
 
 slice-aggregate-store-2 : tie.Need-slice-aggregate-store-2
-slice-aggregate-store-2 c = sym (im-long (filtered (c .before .before .before .before .before)))
+slice-aggregate-store-2 c = sym (im-long (filtered (c .before .before .before .before .before .before)))
 
 store-requires-2 : tie.Need-store-requires-2
 store-requires-2 c κs = search needs
@@ -119,7 +123,7 @@ array-share-prefix-sizes : tie.Need-array-share-prefix-sizes
 array-share-prefix-sizes c = search needs
 
 slice-aggregate-store-3 : tie.Need-slice-aggregate-store-3
-slice-aggregate-store-3 c = sym (abs-long (c .before .before .before .before .before .before .before .before))
+slice-aggregate-store-3 c = sym (abs-long (c .before .before .before .before .before .before .before .before .before))
 
 store-requires-3 : tie.Need-store-requires-3
 store-requires-3 c κs = search needs
@@ -129,7 +133,7 @@ unfolding receiverOf keepAll
 returns c =
     let t2 = c .before .before .before in
     let t1 = t2 .before .before .before in
-    let m = t1 .before .before .before in
+    let m = t1 .before .before .before .before in
     let b = filtered m in
     let s = start b in
     let a = s .args in
@@ -152,6 +156,7 @@ keep-all-spec =
     slice-aggregate-magnitudes
     array-share-prefix-out-im
     slice-aggregate-magnitudes-2
+    slice-aggregate-magnitudes-3
     magnitudes-requires
     array-share-prefix-out-re-2
     slice-aggregate-store
