@@ -1,4 +1,7 @@
-// The filter in both forms, the magnitude and the sender's single call over whole slices, for `make bench` to time from outside.
+// The filter in both forms, the magnitude, the sender's single call and the receiver's block call over whole slices, for
+// `make bench` to time from outside.
+mod receive;
+
 use dsp_types::ComplexSample;
 use dsp_types::SampleCount;
 use dsp_types::TdmaTime;

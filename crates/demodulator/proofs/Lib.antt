@@ -6,7 +6,7 @@ mod Times
 mod Steps
 mod Doors
 mod Taking
-mod Handing
+pub mod Handing
 mod Feeding
 mod Keeping
 mod Rows

@@ -11,12 +11,12 @@ fn print<const N: usize>(names: [&str; N], times: [Duration; N], count: usize) {
     for (name, time) in names.iter().zip(times) {
         let nanoseconds = time.as_secs_f64() * 1e9 / count as f64;
         let ratio = time.as_secs_f64() / times[0].as_secs_f64();
-        println!("{name:<50} {nanoseconds:>8.1} {ratio:>8.2}");
+        println!("{name:<54} {nanoseconds:>8.1} {ratio:>8.2}");
     }
 }
 
 fn main() {
-    println!("{:<50} {:>8} {:>8}", "", "ns", "ratio");
+    println!("{:<54} {:>8} {:>8}", "", "ns", "ratio");
     signal::bench();
     modem::bench();
 }

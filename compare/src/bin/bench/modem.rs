@@ -88,6 +88,7 @@ mod library {
         pub fn tetra_sample(receiver: Receiver, re: f32, im: f32, counter: i64) -> Received;
         pub fn tetra_feed(receiver: Receiver, samples: *const f32, _: usize, first: i64) -> Fed;
         pub fn tetra_take(receiver: Receiver, slot: *mut u8, _: usize, half1: *mut u8, _: usize, half2: *mut u8, _: usize) -> Taken;
+        pub fn bench_receive(samples: *const f32, _: usize, numbers: *mut u32, _: usize) -> usize;
         pub fn tetra_sender_new() -> Sender;
         pub fn tetra_send_sample(sender: Sender, counter: i64, slot: u32, has_bits: u32, bits: *const u8, _: usize) -> SentSample;
         pub fn tetra_send(sender: Sender, first: i64, slot: u32, has_bits: u32, bits: *const u8, _: usize, out: *mut f32, _: usize) -> Sent;
@@ -179,27 +180,54 @@ fn new_receiver() -> Receiver {
     unsafe { library::tetra_receiver_new(1) }
 }
 
-fn bench_receivers(names: [&str; 2], air: &[f32], carriers: usize) {
-    let times = best(|i| {
-        let mut slots = Vec::new();
-        if i == 0 {
-            let mut receivers: Vec<_> = (0..carriers).map(|_| Demodulator::new(Mode::DlUnsynchronized)).collect();
-            for (n, block) in air.chunks(2 * SLOT).enumerate() {
-                for receiver in &mut receivers {
-                    original_hears(receiver, block, n * SLOT, &mut slots);
-                }
-            }
-        } else {
-            let mut receivers = vec![new_receiver(); carriers];
-            for (n, block) in air.chunks(2 * SLOT).enumerate() {
-                for receiver in &mut receivers {
-                    hears(receiver, block, n * SLOT, &mut slots);
-                }
-            }
+fn original_receives(air: &[f32], carriers: usize) -> Vec<Slot> {
+    let mut slots = Vec::new();
+    let mut receivers: Vec<_> = (0..carriers).map(|_| Demodulator::new(Mode::DlUnsynchronized)).collect();
+    for (n, block) in air.chunks(2 * SLOT).enumerate() {
+        for receiver in &mut receivers {
+            original_hears(receiver, block, n * SLOT, &mut slots);
         }
-        slots
+    }
+    slots
+}
+
+fn receives_from_c(air: &[f32], carriers: usize) -> Vec<Slot> {
+    let mut slots = Vec::new();
+    let mut receivers = vec![new_receiver(); carriers];
+    for (n, block) in air.chunks(2 * SLOT).enumerate() {
+        for receiver in &mut receivers {
+            hears(receiver, block, n * SLOT, &mut slots);
+        }
+    }
+    slots
+}
+
+/// In the language: only the slots' numbers come back.
+fn receives(air: &[f32]) -> Vec<u32> {
+    let mut numbers = vec![0; SLOTS];
+    let count = unsafe { library::bench_receive(air.as_ptr(), air.len(), numbers.as_mut_ptr(), numbers.len()) };
+    numbers.truncate(count);
+    numbers
+}
+
+fn numbers(slots: Vec<Slot>) -> Vec<u32> {
+    slots.iter().map(|slot| slot.0).collect()
+}
+
+fn bench_receiver(names: [&str; 3], air: &[f32]) {
+    assert!(original_receives(air, 1) == receives_from_c(air, 1), "the slots differ");
+    let times = best(|i| match i {
+        0 => numbers(original_receives(air, 1)),
+        1 => receives(air),
+        _ => numbers(receives_from_c(air, 1)),
     });
-    print(names, times, carriers * air.len() / 2);
+    print(names, times, air.len() / 2);
+}
+
+fn bench_receivers(air: &[f32]) {
+    let names = ["receivers, 8 locked: the original's `sample`", "receivers, 8 locked: this library, 1020 a call from C"];
+    let times = best(|i| [original_receives, receives_from_c][i](air, CARRIERS));
+    print(names, times, CARRIERS * air.len() / 2);
 }
 
 fn bench_single_samples(air: &[f32]) {
@@ -341,9 +369,23 @@ pub fn bench() {
     let air = downlink();
     let noise = noise();
     let few = &air[..2 * FEW];
-    bench_receivers(["receiver, searching: the original's `sample`", "receiver, searching: this library, 1020 a call"], &noise, 1);
-    bench_receivers(["receiver, locked: the original's `sample`", "receiver, locked: this library, 1020 a call"], &air, 1);
-    bench_receivers(["receivers, 8 locked: the original's `sample`", "receivers, 8 locked: this library, 1020 a call"], &air[..SAMPLES / 4], CARRIERS);
+    bench_receiver(
+        [
+            "receiver, searching: the original's `sample`",
+            "receiver, searching: this library, 1020 a call",
+            "receiver, searching: this library, 1020 a call from C",
+        ],
+        &noise,
+    );
+    bench_receiver(
+        [
+            "receiver, locked: the original's `sample`",
+            "receiver, locked: this library, 1020 a call",
+            "receiver, locked: this library, 1020 a call from C",
+        ],
+        &air,
+    );
+    bench_receivers(&air[..SAMPLES / 4]);
     bench_single_samples(few);
     bench_senders();
     bench_builders();
