@@ -44,14 +44,7 @@ struct Heard {
 
 // How many samples from this counter on are only kept: the stored numbers are read as they are, none is missing, and no
 // window closes.
-fn quiet_samples(
-    reference: i64,
-    ready: i64,
-    slot: u32,
-    misses: u32,
-    next: i64,
-    counter: i64,
-) -> usize
+fn quiet_from(reference: i64, ready: i64, slot: u32, misses: u32, next: i64, counter: i64) -> usize
     ensures { λ r. ⌜ (0 < r → Quiet (record { referenceTime = reference; slotReadyTime = ready; currentSlot = slot }) misses next counter r) ⌝ }
 {
     let reference_stands = is_same(valid_time(reference, 549_755_813_888), reference);
@@ -100,6 +93,19 @@ fn parts_of(samples: &[f32], at: usize, most: usize, re: &mut [f32], im: &mut [f
 }
 
 impl State {
+    fn quiet_samples(self, counter: i64) -> usize
+        ensures { λ r. ⌜ (0 < r → Quiet (record { referenceTime = self .«reference_time» .0; slotReadyTime = self .«slot_ready_time» .0; currentSlot = self .«current_slot» .0 }) (self .«slots_since_last_valid_burst») (self .«next_input_sample_count» .0) counter r) ⌝ }
+    {
+        quiet_from(
+            self.reference_time.0,
+            self.slot_ready_time.0,
+            self.current_slot.0,
+            self.slots_since_last_valid_burst,
+            self.next_input_sample_count.0,
+            counter,
+        )
+    }
+
     // Samples that are only kept: filter, magnitudes and rings, each over the whole block.
     fn keep_all(
         self,
@@ -189,15 +195,7 @@ impl Demodulator {
         let mut counter = first.0;
         let mut taken: usize = 0;
         while taken < samples.len() / 2 {
-            let quiet = quiet_samples(
-                s.reference_time.0,
-                s.slot_ready_time.0,
-                s.current_slot.0,
-                s.slots_since_last_valid_burst,
-                s.next_input_sample_count.0,
-                counter,
-            );
-            let len = parts_of(samples, taken, quiet, &mut x, &mut y);
+            let len = parts_of(samples, taken, s.quiet_samples(counter), &mut x, &mut y);
             if 0 < len {
                 counter = plus(counter, len as i64);
                 s = s.keep_all(&mut re, &mut im, &mut abs, &x[..len], &y[..len], counter);

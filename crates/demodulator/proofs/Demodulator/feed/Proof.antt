@@ -51,7 +51,7 @@ abbrev given : tie.At-loop Inv-loop μ-loop → tie.After-state Inv-loop μ-loop
 given t = first t .before .before .before .before
 
 abbrev turn : tie.After-parts-of Inv-loop μ-loop → tie.At-loop Inv-loop μ-loop
-turn c = c .before .before .before .before .before .before .before .before
+turn c = c .before .before .before .before .before
 
 abbrev receiver : tie.At-loop Inv-loop μ-loop → Receiver
 receiver t = receiverOf (t .loop .s) (t .loop .re) (t .loop .im) (t .loop .abs)
@@ -67,14 +67,8 @@ sample t = part (start t .args .samples .now) (t .loop .taken)
 first-fits : (c : tie.After-struct-told Inv-loop μ-loop) → SFits w64 (c .before .before .before .before .before .before .args .first .0)
 first-fits c = search needs
 
--- the receiver's times, likewise
-reference-fits : (c : tie.After-struct-told2 Inv-loop μ-loop) → SFits w64 (c .before .before .loop .s .«reference_time» .0)
-reference-fits c = search needs
-
-ready-fits : (c : tie.After-struct-told2 Inv-loop μ-loop) → SFits w64 (c .before .before .loop .s .«slot_ready_time» .0)
-ready-fits c = search needs
-
-next-fits : (c : tie.After-struct-told2 Inv-loop μ-loop) → SFits w64 (c .before .before .loop .s .«next_input_sample_count» .0)
+-- the counter after the last accepted one, likewise
+next-fits : (c : tie.After-struct-told2 Inv-loop μ-loop) → SFits w64 (turn (c .before .before .before .before .before .before) .loop .s .«next_input_sample_count» .0)
 next-fits c = search needs
 
 -- there is one more sample
@@ -103,7 +97,7 @@ unfolding receiverOf
 judged c =
     let t = turn (parted c) in
     let n : toZ w64 (ofZ w64 (c .before .valid-count .result)) ≡ validCount (t .loop .s .«next_input_sample_count» .0) =
-    read _ (c .before .valid-count .ok) ∙ c .before .valid-count .ensures ∙ ap validCount (toZ-ofZ w64 _ (next-fits (parted c .before .before .before .before .before .before))) in
+    read _ (c .before .valid-count .ok) ∙ c .before .valid-count .ensures ∙ ap validCount (toZ-ofZ w64 _ (next-fits (c .before .before))) in
     c .sample-refusal .ensures ∙ ap (λ (z : ℤ). sampleRefusal z (sample t) (toZ w64 (t .loop .counter))) n
 
 -- the block as it stands in this turn, its next sample first
@@ -138,10 +132,7 @@ quiet : (c : tie.Then1 Inv-loop μ-loop) → let t = turn (split c) in let d = r
 unfolding receiverOf
 quiet c =
     let p = split c in
-    let q = p .before .before .before in
-    let t = q .before .before .before in
-    quiet-fewer (p .parts-of .result) (p .parts-of .ensures .0 .0)
-    (rw (toZ-ofZ w64 _ (reference-fits t), toZ-ofZ w64 _ (ready-fits t), toZ-ofZ w64 _ (next-fits t)) at (q .quiet-samples .ensures (omega (arith, c .if1 .taken, p .parts-of .ensures .0 .0))))
+    quiet-fewer (p .parts-of .result) (p .parts-of .ensures .0 .0) (p .before .before .before .quiet-samples .ensures (omega (arith, c .if1 .taken, p .parts-of .ensures .0 .0)))
 
 len-reads : (c : tie.Then1 Inv-loop μ-loop) → toZ w64 (split c .parts-of .result) ≡ pos (split c .parts-of .result)
 len-reads c = toZ-pos w64 (split c .parts-of .result) (omega (arith, split c .parts-of .ensures .0 .1))
@@ -229,38 +220,38 @@ loop-again c =
     let f = rw n at e in
     (p .parts-of .ensures .0 .2, l .inv .1, p .parts-of .ensures .1 .1 .1 .0, p .parts-of .ensures .1 .1 .1 .1, rw (c .keep-all .ensures, read (u .plus .result) (u .plus .ok), u .plus .ensures, len-reads i) f)
 
+mul-t32 : tie.Need-mul-t32 Inv-loop μ-loop
+mul-t32 c =
+    let h = one-more (c .before .before .before) in
+    search needs
+
 mul-t33 : tie.Need-mul-t33 Inv-loop μ-loop
 mul-t33 c =
     let h = one-more (c .before .before .before) in
     search needs
 
-mul-t34 : tie.Need-mul-t34 Inv-loop μ-loop
-mul-t34 c =
-    let h = one-more (c .before .before .before) in
-    search needs
-
-shared-slice-read-t36 : tie.Need-shared-slice-read-t36 Inv-loop μ-loop
-shared-slice-read-t36 c =
+shared-slice-read-t35 : tie.Need-shared-slice-read-t35 Inv-loop μ-loop
+shared-slice-read-t35 c =
     let h = one-more (c .before .before .before .before) in
     search needs
 
-mul-t37 : tie.Need-mul-t37 Inv-loop μ-loop
-mul-t37 c =
+mul-t36 : tie.Need-mul-t36 Inv-loop μ-loop
+mul-t36 c =
     let h = one-more (c .before .before .before .before) in
     search needs
 
-add-t38 : tie.Need-add-t38 Inv-loop μ-loop
-add-t38 c =
+add-t37 : tie.Need-add-t37 Inv-loop μ-loop
+add-t37 c =
     let h = one-more (c .before .before .before .before) in
     search needs
 
-mul-t39 : tie.Need-mul-t39 Inv-loop μ-loop
-mul-t39 c =
+mul-t38 : tie.Need-mul-t38 Inv-loop μ-loop
+mul-t38 c =
     let h = one-more (c .before .before .before .before) in
     search needs
 
-shared-slice-read-t41 : tie.Need-shared-slice-read-t41 Inv-loop μ-loop
-shared-slice-read-t41 c =
+shared-slice-read-t40 : tie.Need-shared-slice-read-t40 Inv-loop μ-loop
+shared-slice-read-t40 c =
     let h = one-more (c .before .before .before .before .before) in
     search needs
 
@@ -354,13 +345,13 @@ feed-spec =
     add-taken
     loop-less
     loop-again
+    mul-t32
     mul-t33
-    mul-t34
-    shared-slice-read-t36
-    mul-t37
-    add-t38
-    mul-t39
-    shared-slice-read-t41
+    shared-slice-read-t35
+    mul-t36
+    add-t37
+    mul-t38
+    shared-slice-read-t40
     valid-count-requires
     sample-refusal-requires
     fed-requires

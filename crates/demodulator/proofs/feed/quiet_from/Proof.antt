@@ -1,4 +1,4 @@
--- `feed::quiet_samples` meets its contract: each test by what it says.
+-- `feed::quiet_from` meets its contract: each test by what it says.
 use mathlib.Core.Path.{_≡_, sym, _∙_}
 use native.Mathlib.Omega.{arith}
 use Prim.Native.Nat.{_^_}
@@ -15,8 +15,8 @@ use Rattle.demodulator.proofs.Signed.{read, wider, within-pos, within-s
 use Rattle.demodulator.proofs.Doors.{valid-within}
 use Rattle.demodulator.proofs.Keeping.{Stand, all-stand, alike, Between, between, quiet-from}
 use borrow.Author.Needs.{needs}
-use Rattle.demodulator.proofs.feed.quiet_samples.Statement.{statement}
-use Rattle.demodulator.proofs.feed.quiet_samples.Tie as tie
+use Rattle.demodulator.proofs.feed.quiet_from.Statement.{statement}
+use Rattle.demodulator.proofs.feed.quiet_from.Tie as tie
 
 valid-time-requires : tie.Need-valid-time-requires
 valid-time-requires c κs = search needs
@@ -120,8 +120,8 @@ returns-4 c h =
     rw (c .unsigned .ensures, read _ (m .minus .ok))
     (quiet-from _ _ _ _ _ _ _ (alike _ _ (t .one)) (alike _ _ (t .two)) (alike _ _ (t .three)) (ltb-true _ _ (t .four)) (leb-true _ _ (t .five)) (in-count e) j (left m))
 
-pub quiet-samples-spec : {M : Type 1} → statement M
-quiet-samples-spec =
+pub quiet-from-spec : {M : Type 1} → statement M
+quiet-from-spec =
     tie.close
     (tie.spec
     valid-time-requires
