@@ -5,22 +5,17 @@ mod receive;
 use dsp_types::ComplexSample;
 use dsp_types::SampleCount;
 use dsp_types::TdmaTime;
+use dsp_types::least;
 use fir::FirComplexSym;
 use modulator::Answer;
 use modulator::DqpskMapper;
 use modulator::Modulator;
 ghost use mathlib.Core.Path.{_≡_};
-ghost use Prim.Native.Nat.{_+_, _/_, _<_, _≤_, min};
+ghost use Prim.Native.Nat.{_+_, _/_, _<_, _≤_};
 ghost use lib.ListN.{length};
 ghost use Rattle.fir.specs.Fir.{startWith, reOf, imOf};
 ghost use Rattle.modulator.specs.Blocks.{partsOf};
 ghost use Rattle.bench_signal.specs.Bench.{leastOf, roomOf, filteredOf, magnitudesOf, sentOf};
-
-fn least(a: usize, b: usize) -> usize
-    ensures { λ r. ⌜ r ≡ min a b ⌝ }
-{
-    if a < b { a } else { b }
-}
 
 // As many samples as four slices of these lengths have room for.
 fn room(re: usize, im: usize, out_re: usize, out_im: usize) -> usize

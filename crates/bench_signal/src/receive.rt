@@ -1,10 +1,10 @@
 // The receiver's block call over all samples, with each slot taken at once.
-use crate::least;
 use demodulator::Demodulator;
 use demodulator::Mode;
 use demodulator::Stop;
 use demodulator::TakeAnswer;
 use dsp_types::SampleCount;
+use dsp_types::least;
 ghost use mathlib.Core.Path.{_≡_};
 ghost use mathlib.Core.Bool.{true};
 ghost use lib.IntN.{pos};

@@ -1,16 +1,11 @@
 // Raw samples as radio programs have them: f32 parts re, im, re, im, .., each four bytes, lowest first (`.cf32`).
+use dsp_types::least;
 ghost use mathlib.Core.Path.{_≡_};
 ghost use mathlib.Core.List.{_++_};
 ghost use Prim.Native.Nat.{_*_, _/_, min};
 ghost use lib.ListN.{length, take, drop};
 ghost use lib.Ieee.{binary32, ofBits, toBits};
 ghost use Rattle.cf32.specs.Parts.{wordOf, partsIn, bytesOf};
-
-fn least(a: usize, b: usize) -> usize
-    ensures { λ r. ⌜ r ≡ min a b ⌝ }
-{
-    if a < b { a } else { b }
-}
 
 fn wide(byte: u8) -> u32
     ensures { λ r. ⌜ r ≡ byte ⌝ }

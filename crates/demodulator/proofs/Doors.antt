@@ -1,11 +1,11 @@
 -- A receiver as it is read at the door: its numbers are valid ones. Assumes nothing.
-use mathlib.Core.Path.{_≡_, refl, sym, ap, _∙_}
+use mathlib.Core.Path.{_≡_, refl}
 use mathlib.Core.Bool.{Bool, true, false, cond, _||_}
 use mathlib.Core.List.{List}
 use Prim.Native.Nat.{ℕ, zero, suc, _+_, _-_, _%_, _≤_, _<_, _^_, min}
 use native.Mathlib.Nat.{mod-lt, min-le-left, min-le-right}
 use native.Mathlib.Omega.{arith}
-use lib.Dec.{leb, ltb, lit<, lit≤}
+use lib.Dec.{leb, lit<}
 use lib.IntN.{ℤ, pos, negsuc, _-ℤ_}
 use lib.Signed.{mag, ltZ}
 use lib.Ieee.{Float}

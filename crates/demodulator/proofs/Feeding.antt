@@ -4,7 +4,7 @@ use mathlib.Core.Bool.{Bool, true, false}
 use mathlib.Core.List.{List, [], _∷_}
 use Prim.Native.Nat.{ℕ, zero, suc, _+_, _*_, _/_, _<_, _≤_}
 use native.Mathlib.Omega.{arith}
-use lib.ListN.{length, drop, getD, length-drop, drop-of-length-le}
+use lib.ListN.{length, drop, getD, length-drop}
 use lib.Seq.{drop-cons}
 use lib.IntN.{ℤ, pos, _+ℤ_}
 use lib.Ieee.{Float, nan}
@@ -13,7 +13,7 @@ use Rattle.demodulator.specs.declared.feed.Stop.{Stop}
 use Rattle.demodulator.specs.declared.feed.Stop.the-variants.{End, Slot, Refused}
 use Rattle.demodulator.specs.Receiver.{Receiver}
 use Rattle.demodulator.specs.Calls.{valid, validCount, sampleRefusal, accept, sampleOf}
-use Rattle.demodulator.specs.Windows.{Window, acceptWindows, sampleWindows}
+use Rattle.demodulator.specs.Windows.{acceptWindows, sampleWindows}
 use Rattle.demodulator.specs.Feed.{interleaved, handsOver, Block, fedOne, feedOf}
 use Rattle.demodulator.proofs.Doors.{accepted-goes}
 

@@ -1,11 +1,11 @@
 -- A slot that waits to be taken changes nothing but itself: what a sample makes of a receiver in which one waits is what it makes of
 -- one in which none does, and one waits after it where one did or where a window hands one over. Assumes nothing.
 use mathlib.Core.Path.{_≡_, refl, sym, ap, _∙_}
-use mathlib.Core.Bool.{Bool, true, false, cond, _||_}
+use mathlib.Core.Bool.{Bool, true, false, _||_}
 use mathlib.Core.List.{List, [], _∷_, _++_}
 use Prim.Native.Nat.{ℕ, zero, suc}
 use lib.Dec.{leb}
-use lib.IntN.{ℤ, pos, _+ℤ_, _-ℤ_}
+use lib.IntN.{ℤ, pos, _-ℤ_}
 use lib.Ieee.{Float}
 use Rattle.dsp_types.specs.declared.ComplexSample.{ComplexSample}
 use Rattle.dsp_types.specs.Samples.{silence}
@@ -17,7 +17,7 @@ use Rattle.demodulator.specs.declared.State.{State}
 use Rattle.demodulator.specs.Signal.{bitsOf}
 use Rattle.demodulator.specs.Receiver.{Receiver, listen, tdiff, far, skipIf, withClock, arrived, closes, closeIf, closeWindow, processSample, processed, processPastSamples, searchWindow, found, notFoundYet, emptied, downlinkWindow, handed, uplinkWindow, uplinkSlot, schedule, trackedLater, trackedSooner, later, sooner, moved, nextSlot}
 use Rattle.demodulator.specs.Calls.{missing, feedZeros, expecting, accept}
-use Rattle.demodulator.specs.Windows.{Kind, Window, searchKind, kindOf, windowIf, windowOf, zerosWindows, acceptWindows}
+use Rattle.demodulator.specs.Windows.{Window, searchKind, kindOf, windowIf, windowOf, zerosWindows, acceptWindows}
 use Rattle.demodulator.specs.Feed.{isSlot, handsOver}
 use Rattle.demodulator.specs.View.{receiverOf}
 use Rattle.demodulator.specs.Bounds.{Timed}

@@ -1,14 +1,13 @@
 -- Between windows samples are only kept, so that a block of them may be kept at once. Assumes nothing.
 use mathlib.Core.Path.{_≡_, refl, sym, ap, _∙_}
-use mathlib.Core.Bool.{Bool, true, false, cond, _||_, _&&_, not}
-use mathlib.Core.List.{List, [], _∷_, _++_, map}
-use Prim.Native.Nat.{ℕ, zero, suc, _+_, _*_, _≤_, _<_, _^_, _%_, min}
+use mathlib.Core.Bool.{Bool, true, false, _||_, _&&_, not}
+use mathlib.Core.List.{List, [], _∷_, _++_}
+use Prim.Native.Nat.{ℕ, suc, _+_, _≤_, _<_, _^_, _%_, min}
 use native.Mathlib.Nat.{min-eq-right, mod-eq-of-lt}
 use native.Mathlib.Omega.{arith}
 use lib.ListN.{length}
 use lib.IntN.{ℤ, pos, negsuc, _+ℤ_, _-ℤ_}
 use lib.Signed.{ltZ, mag}
-use lib.Ieee.{Float}
 use Rattle.dsp_types.specs.declared.ComplexSample.{ComplexSample}
 use Rattle.dsp_types.specs.Ints.{up, dn, sum, less, same, parts, ltZ-no, ltZ-false, eqZ, eqZ-no}
 use Rattle.dsp_types.specs.Times.{slots}
@@ -18,7 +17,7 @@ use Rattle.history.specs.History.{heldAfter}
 use Rattle.demodulator.specs.Signal.{Signal, filtered, hear}
 use Rattle.demodulator.specs.Receiver.{Clock, Receiver, listen, tdiff, far, skipIf, arrived, closes, closeIf, processSample}
 use Rattle.demodulator.specs.Calls.{valid, validTime, validClock, validCount, sampleRefusal, missing, feedZeros, expecting, accept}
-use Rattle.demodulator.specs.Windows.{Window, windowIf, windowOf, zerosWindows, acceptWindows}
+use Rattle.demodulator.specs.Windows.{windowIf, windowOf, zerosWindows, acceptWindows}
 use Rattle.demodulator.specs.Feed.{handsOver, Block, feedOf}
 use Rattle.demodulator.specs.Quiet.{hearAll, keepAll, magnitudesOf, anyBeyond, Quiet}
 use Rattle.demodulator.proofs.Samples.{out-of-count}

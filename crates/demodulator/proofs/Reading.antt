@@ -1,5 +1,5 @@
 -- A window of the past as the rings hold it is that window of the signal. Assumes nothing.
-use mathlib.Core.Path.{_≡_, refl, sym, ap, _∙_}
+use mathlib.Core.Path.{_≡_}
 use mathlib.Core.List.{List, [], _++_}
 use Prim.Native.Nat.{ℕ, _+_, _*_, _-_, _%_, _<_, _≤_, min}
 use native.Mathlib.Nat.{mod-eq-of-lt, min-eq-left}

@@ -1,20 +1,19 @@
 -- A block of samples as rows of parts, written one by one, filtered and stored at once. Assumes nothing.
 use mathlib.Core.Path.{_≡_, refl, sym, ap, _∙_}
 use mathlib.Core.Bool.{Bool, true, false, _||_}
-use mathlib.Core.List.{List, [], _∷_, _++_, map}
-use Prim.Native.Nat.{ℕ, zero, suc, _+_, _*_, _/_, _%_, _≤_, _<_, min}
+use mathlib.Core.List.{List, [], _∷_, _++_}
+use Prim.Native.Nat.{ℕ, zero, suc, _+_, _*_, _/_, _≤_, _<_, min}
 use native.Mathlib.Omega.{arith}
 use native.Mathlib.Numerals.{add-one}
 use lib.ListN.{length, take, drop, set, getD}
-use lib.Seq.{append-snoc, take-all, take-at, length-take-le}
+use lib.Seq.{append-snoc, take-all, take-at}
 use lib.Ieee.{Float, nan}
 use Rattle.dsp_types.specs.declared.ComplexSample.{ComplexSample}
 use Rattle.dsp_types.specs.Refusals.{beyond}
 use Rattle.fir.specs.Fir.{lineAfter, outsOf, samplesOf, blockOf, startWith, reOf, imOf}
 use Rattle.magnitude.specs.Magnitude.{magnitudeOf, magnitudesIn}
-use Rattle.history.specs.History.{heldIn, samplesIn, heldAfter}
+use Rattle.history.specs.History.{heldIn, heldAfter}
 use Rattle.history.proofs.Laws.{samples-after}
-use Rattle.demodulator.specs.Signal.{Signal}
 use Rattle.demodulator.specs.View.{signalFrom}
 use Rattle.demodulator.specs.Feed.{interleaved}
 use Rattle.demodulator.specs.Quiet.{hearAll, magnitudesOf, anyBeyond}

@@ -1,12 +1,11 @@
 -- The tests and counts of a sample, over plain numbers. Assumes nothing.
-use mathlib.Core.Path.{_≡_, refl, ap, sym, _∙_}
-use mathlib.Core.Bool.{Bool, true, false, _||_}
-use Prim.Native.Nat.{ℕ, zero, suc, _+_, _-_, _<_, _≤_, min}
+use mathlib.Core.Path.{_≡_, refl, sym}
+use mathlib.Core.Bool.{_||_}
+use Prim.Native.Nat.{ℕ, zero, suc, _+_, _-_, _<_, _≤_}
 use native.Mathlib.Nat.{min-eq-left, min-eq-right}
 use native.Mathlib.Omega.{arith}
 use lib.IntN.{ℤ, pos, negsuc, _-ℤ_}
 use lib.Signed.{mag, ltZ}
-use lib.Dec.{ltb}
 use borrow.Author.Tests.{le-ltb}
 use Rattle.dsp_types.specs.Ints.{up, dn, less}
 use Rattle.dsp_types.specs.Refusals.{outOfCount}

@@ -12,7 +12,7 @@ use Rattle.dsp_types.specs.Times.{slotOf, slots}
 use Rattle.dsp_types.specs.Ints.{up, dn}
 use Rattle.demodulator.specs.declared.Mode.{Mode}
 use Rattle.demodulator.specs.declared.State.{State}
-use Rattle.demodulator.specs.Receiver.{Receiver, Clock, setSlot, addSlots, withClock, slotsToSkip, far, tdiff, listen, skipIf, arrived, closes, closeIf, closeWindow, processSample, slotReadyFromBegin}
+use Rattle.demodulator.specs.Receiver.{Receiver, setSlot, addSlots, withClock, slotsToSkip, far, tdiff, listen, skipIf, arrived, closes, closeIf, processSample, slotReadyFromBegin}
 use Rattle.demodulator.specs.View.{receiverOf}
 use Rattle.demodulator.specs.Bounds.{Within, Timed, Closing, Counter}
 use Rattle.demodulator.proofs.Signed.{wider, within-pos, within-sum, within-difference, ready-within, slot-number, eqZ-true, counter-37}

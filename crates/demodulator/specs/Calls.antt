@@ -1,16 +1,15 @@
 -- The calls on a receiver, each with its refusals, its answer and the receiver after it (01, "Refusals", "The receiver"). Definitions only.
 use Prim.Native.Nat.{ℕ, zero, suc, _+_, _%_, min}
-use mathlib.Core.Bool.{Bool, true, false, cond, not, _&&_, _||_}
-use mathlib.Core.List.{List, [], _∷_, _++_}
-use lib.Dec.{leb, eqb}
-use lib.ListN.{length, replicate}
-use lib.IntN.{ℤ, pos, negsuc, natAbs, _+ℤ_, _-ℤ_}
+use mathlib.Core.Bool.{Bool, false, cond, _||_}
+use mathlib.Core.List.{List, [], _∷_}
+use lib.Dec.{leb}
+use lib.ListN.{length}
+use lib.IntN.{ℤ, pos, negsuc, _+ℤ_, _-ℤ_}
 use lib.Signed.{ltZ, mag}
 use Rattle.dsp_types.specs.declared.ComplexSample.{ComplexSample}
 use Rattle.dsp_types.specs.Samples.{silence}
 use Rattle.dsp_types.specs.Times.{slots}
 use Rattle.dsp_types.specs.Refusals.{accepted, badSample, badCounter, badLength, pastCounter, noSlot, notFollowing, beyond, outOfCount, wrongLength}
-use Rattle.burst_finder.specs.declared.Finding.{Finding}
 use Rattle.burst_finder.specs.Slots.{typeNumber, getBurst}
 use Rattle.demodulator.specs.declared.process.Answer.{Answer}
 use Rattle.demodulator.specs.declared.process.Answer.the-variants.{Accepted, Refused}
@@ -19,7 +18,7 @@ use Rattle.demodulator.specs.declared.take.TakeAnswer.{TakeAnswer}
 use Rattle.demodulator.specs.declared.take.TakeAnswer.the-variants as TakeAnswer
 use Rattle.demodulator.specs.declared.Mode.{Mode}
 use Rattle.demodulator.specs.declared.Mode.the-variants.{Idle, DlUnsynchronized, Dl, Ul}
-use Rattle.demodulator.specs.Receiver.{Clock, Lock, Finder, HandedSlot, Receiver, processSample, arrived, closes, closeWindow}
+use Rattle.demodulator.specs.Receiver.{Clock, Finder, HandedSlot, Receiver, processSample}
 
 -- ---- what is read of a stored state: a number that no call could have left counts as a valid one
 

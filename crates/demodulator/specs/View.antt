@@ -1,6 +1,6 @@
 -- How the stored state stands for a receiver: the one place that knows of rings, indices and numbers for modes. Definitions only.
 use mathlib.Core.Path.{_≡_}
-use Prim.Native.Nat.{ℕ, zero, suc, _*_, _-_, _%_}
+use Prim.Native.Nat.{ℕ, _*_, _-_}
 use mathlib.Core.Bool.{cond}
 use mathlib.Core.List.{List}
 use lib.Dec.{eqb}
@@ -20,7 +20,7 @@ use Rattle.demodulator.specs.declared.Demodulator.{Demodulator}
 use Rattle.demodulator.specs.declared.State.{State}
 use Rattle.demodulator.specs.declared.window.Window.{Window}
 use Rattle.demodulator.specs.Signal.{Signal, timingOf, bitsOf}
-use Rattle.demodulator.specs.Receiver.{Clock, Lock, Finder, HandedSlot, Receiver}
+use Rattle.demodulator.specs.Receiver.{Clock, Finder, Receiver}
 
 -- the mode of a stored number; any other is an idle receiver's
 unfoldable pub modeOf : ℕ → Mode

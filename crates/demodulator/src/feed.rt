@@ -11,10 +11,11 @@ use crate::sums::minus;
 use crate::sums::plus;
 use dsp_types::ComplexSample;
 use dsp_types::SampleCount;
+use dsp_types::least;
 ghost use mathlib.Core.Path.{_≡_};
 ghost use mathlib.Core.Bool.{false};
 ghost use mathlib.Core.List.{_++_};
-ghost use Prim.Native.Nat.{_+_, _*_, _/_, _<_, _≤_, min};
+ghost use Prim.Native.Nat.{_+_, _*_, _/_, _<_, _≤_};
 ghost use lib.ListN.{length, drop};
 ghost use Rattle.demodulator.specs.Calls.{accept};
 ghost use Rattle.demodulator.specs.Windows.{acceptWindows};
@@ -61,12 +62,6 @@ fn quiet_from(reference: i64, ready: i64, slot: u32, misses: u32, next: i64, cou
         return 0;
     }
     dsp_types::unsigned(left) as usize
-}
-
-fn least(a: usize, b: usize) -> usize
-    ensures { λ r. ⌜ r ≡ min a b ⌝ }
-{
-    if a < b { a } else { b }
 }
 
 // Writes the parts of samples from the one numbered `at` on, at most so many, up to one that is too large. Returns how many.

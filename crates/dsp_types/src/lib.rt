@@ -1,6 +1,6 @@
-// What every stage shares: a complex sample, a sample count, a slot number, and the check of bit bytes.
+// What every stage shares: a complex sample, a sample count, a slot number, the smaller of two lengths, and the check of bit bytes.
 ghost use mathlib.Core.Path.{_≡_};
-ghost use Prim.Native.Nat.{_%_};
+ghost use Prim.Native.Nat.{_%_, min};
 ghost use lib.IntN.{pos, _+ℤ_};
 ghost use lib.Signed.{mag};
 ghost use Rattle.dsp_types.specs.Times.{slotOf, slots, divEuclid};
@@ -69,6 +69,13 @@ pub fn div_euclid(n: i64, d: u32) -> i64
     let by = if d == 0 { 1 } else { d as u64 };
     let quotient = (unsigned(n) / by) as i64;
     if n < 0 { -1 - quotient } else { quotient }
+}
+
+// The smaller of two lengths.
+pub fn least(a: usize, b: usize) -> usize
+    ensures { λ r. ⌜ r ≡ min a b ⌝ }
+{
+    if a < b { a } else { b }
 }
 
 // Whether some byte is neither 0 nor 1. It looks at every byte, so that the compiler can take many at once.

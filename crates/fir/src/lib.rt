@@ -1,5 +1,6 @@
 // The filter line (fir.rs): the newest 32 samples, and the symmetric filter over them, for a sample or a block.
 use dsp_types::ComplexSample;
+use dsp_types::least;
 ghost use mathlib.Core.Path.{_≡_};
 ghost use mathlib.Core.List.{[], _∷_, _++_};
 ghost use Prim.Native.Nat.{_+_, _-_, _<_, _≤_, min};
@@ -54,12 +55,6 @@ fn filter_part(row: &[f32]) -> f32
         }
     }
     sum[0] + sum[1] + sum[2] + sum[3]
-}
-
-fn least(a: usize, b: usize) -> usize
-    ensures { λ r. ⌜ r ≡ min a b ⌝ }
-{
-    if a < b { a } else { b }
 }
 
 // How many outputs a row and a buffer of these lengths have room for.

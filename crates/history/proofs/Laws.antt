@@ -12,7 +12,7 @@ use lib.Seq.{take-suc}
 use lib.Ieee.{Float, nan}
 use Rattle.dsp_types.specs.declared.ComplexSample.{ComplexSample}
 use Rattle.dsp_types.specs.Samples.{zeroF, silence, ago}
-use Rattle.dsp_types.specs.Ring.{slot, ringAt, ringSample, next, Agree, newest, newest-newer, newer-ago, ring-newer, sample-newer, newest-same, newest-at}
+use Rattle.dsp_types.specs.Ring.{slot, ringAt, ringSample, next, newest, newest-newer, newer-ago, ring-newer, sample-newer, newest-same, newest-at}
 use Rattle.history.specs.History.{heldIn, samplesIn, heldAfter, PastOf, AbsOf}
 
 -- ---- rings of any length, with an index that counts modulo it

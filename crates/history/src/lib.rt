@@ -1,8 +1,9 @@
 // The past (history.rs): the newest 2,048 filtered samples and beside each its magnitude, in rings with one index.
 use dsp_types::ComplexSample;
+use dsp_types::least;
 ghost use mathlib.Core.Path.{_≡_};
 ghost use mathlib.Core.List.{_∷_};
-ghost use Prim.Native.Nat.{_+_, _≤_, _%_, min};
+ghost use Prim.Native.Nat.{_+_, _≤_, _%_};
 ghost use lib.ListN.{length, take, replicate};
 ghost use Rattle.dsp_types.specs.Samples.{zeroF, silence, ago};
 ghost use Rattle.history.specs.History.{heldIn, pastOf, absOf, heldAfter};
@@ -27,12 +28,6 @@ pub fn recall(ring: &[f32; 2048], at: usize, delay: usize) -> f32
     ensures { λ r. ⌜ r ≡ ago zeroF (heldIn (now (ring .entry)) at) (delay % 2048) ⌝ }
 {
     ring[(at % 2048 + 2048 - delay % 2048) % 2048]
-}
-
-fn least(a: usize, b: usize) -> usize
-    ensures { λ r. ⌜ r ≡ min a b ⌝ }
-{
-    if a < b { a } else { b }
 }
 
 // `store` of a run that fits before the ring's end: its places follow each other, so that the compiler moves

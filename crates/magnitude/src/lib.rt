@@ -1,11 +1,12 @@
 // The stand-in for `abs()` (01, "The past"): the magnitude of a complex sample, cut to an f32.
+use dsp_types::least;
 ghost use mathlib.Core.Path.{_≡_};
 ghost use mathlib.Core.Bool.{false, not};
 ghost use mathlib.Core.Logic.{_⊎_};
 ghost use lib.Dec.{T};
 ghost use lib.Ieee.{nan, binary32, binary64, isNan, lt, ofBits, toBits};
 ghost use lib.ListN.{length, getD};
-ghost use Prim.Native.Nat.{ℕ, _+_, _*_, _/_, _^_, _<_, _≤_, min, max};
+ghost use Prim.Native.Nat.{ℕ, _+_, _*_, _/_, _^_, _<_, _≤_, max};
 ghost use Rattle.magnitude.specs.Magnitude.{magnitudeOf, magnitudesIn, largest, square};
 ghost use Rattle.magnitude.specs.Pattern.{sizeOf, exponentOf, significandOf, sized, packedOf};
 
@@ -231,13 +232,6 @@ fn any_below(xs: &[f32]) -> bool
         found = found | (xs[i] < 0.0);
     }
     found
-}
-
-// The smaller of two lengths.
-fn least(a: usize, b: usize) -> usize
-    ensures { λ r. ⌜ r ≡ min a b ⌝ }
-{
-    if a < b { a } else { b }
 }
 
 // The magnitudes of samples, as many as all three slices have room for. What is behind them in `out` stays.

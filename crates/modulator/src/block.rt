@@ -7,9 +7,10 @@ use crate::mapper::phase_after;
 use crate::sender::Modulator;
 use dsp_types::SampleCount;
 use dsp_types::TdmaTime;
+use dsp_types::least;
 ghost use mathlib.Core.Path.{_≡_};
 ghost use mathlib.Core.Bool.{cond};
-ghost use Prim.Native.Nat.{_+_, _*_, _/_, _≤_, _<_, _^_, min};
+ghost use Prim.Native.Nat.{_+_, _*_, _/_, _≤_, _<_, _^_};
 ghost use lib.Dec.{eqb};
 ghost use lib.ListN.{length, take};
 ghost use Rattle.fir.specs.Fir.{samplesOf, startWith, reOf, imOf};
@@ -29,12 +30,6 @@ pub struct Sent {
 struct Piece {
     pub modulator: Modulator,
     pub mapper: DqpskMapper,
-}
-
-fn least(a: usize, b: usize) -> usize
-    ensures { λ r. ⌜ r ≡ min a b ⌝ }
-{
-    if a < b { a } else { b }
 }
 
 // How many samples there are before the counter or the slot ends.

@@ -1,7 +1,8 @@
 // A line of text, made piece by piece: at most 1,024 bytes, what is behind them is cut off.
+use dsp_types::least;
 ghost use mathlib.Core.Path.{_≡_};
 ghost use mathlib.Core.List.{[], _++_, map};
-ghost use Prim.Native.Nat.{_≤_, min};
+ghost use Prim.Native.Nat.{_≤_};
 ghost use lib.ListN.{length, take};
 ghost use Rattle.text.specs.Text.{textOf, cut, decimal, characterOf};
 
@@ -9,12 +10,6 @@ ghost use Rattle.text.specs.Text.{textOf, cut, decimal, characterOf};
 pub struct Text {
     pub bytes: [u8; 1024],
     pub len: usize,
-}
-
-fn least(a: usize, b: usize) -> usize
-    ensures { λ r. ⌜ r ≡ min a b ⌝ }
-{
-    if a < b { a } else { b }
 }
 
 // The first len bytes, or all where there are fewer.

@@ -1,6 +1,6 @@
 -- `Demodulator::feed` meets its contract. The loop's invariant: what is left, fed from here, ends where all of it would.
-use mathlib.Core.Path.{_≡_, refl, sym, ap, _∙_}
-use Prim.Native.Nat.{ℕ, _+_, _-_, _*_, _/_, _<_, _≤_, _^_}
+use mathlib.Core.Path.{_≡_, sym, ap, _∙_}
+use Prim.Native.Nat.{_+_, _-_, _*_, _/_, _<_, _≤_, _^_}
 use native.Mathlib.Omega.{arith}
 use lib.ListN.{length, take, drop}
 use lib.Seq.{length-take-le}
@@ -17,10 +17,10 @@ use Rattle.demodulator.specs.Bounds.{Within}
 use Rattle.demodulator.proofs.Keeping.{quiet-fewer, kept-block}
 use mathlib.Core.List.{List, _∷_}
 use lib.Dec.{lit≤}
-use lib.IntN.{ℤ, pos, _+ℤ_}
+use lib.IntN.{ℤ, pos}
 use lib.Ieee.{Float}
-use Rattle.demodulator.specs.Calls.{valid, validCount, sampleRefusal, accept}
-use Rattle.demodulator.proofs.Signed.{read, read-within, within-pos, counter-within}
+use Rattle.demodulator.specs.Calls.{valid, validCount, sampleRefusal}
+use Rattle.demodulator.proofs.Signed.{read, within-pos, counter-within}
 use Rattle.demodulator.proofs.Doors.{valid-timed, valid-next, Heard, not-refused}
 use Rattle.demodulator.specs.Feed.{interleaved, feedOf}
 use Rattle.demodulator.specs.View.{viewOf, receiverOf}

@@ -1,5 +1,4 @@
 -- `Demodulator::new` meets its contract: its rings hold zeros, and the ready time is that of slot 0.
-use mathlib.Core.Path.{_∙_}
 use Prim.Native.Nat.{_^_}
 use lib.Dec.{lit≤, lit<}
 use Rattle.demodulator.specs.Signal.{quiet}

@@ -1,6 +1,6 @@
 -- `Demodulator::sample` meets its contract: refused as it was, or accepted from the state as it is read.
-use mathlib.Core.Path.{_≡_, refl, sym, ap, _∙_}
-use Prim.Native.Nat.{ℕ, _^_}
+use mathlib.Core.Path.{_≡_, sym, ap, _∙_}
+use Prim.Native.Nat.{_^_}
 use lib.Dec.{lit≤}
 use mir.Syntax.{w64}
 use mir.Val.{SFits}
@@ -9,7 +9,7 @@ use Rattle.demodulator.specs.Receiver.{Receiver}
 use Rattle.demodulator.specs.Calls.{answerNumber, sampleRefusal, validCount, valid, sampleOf, accept}
 use Rattle.demodulator.specs.View.{viewOf, receiverOf}
 use Rattle.demodulator.proofs.Signed.{read-within, wider}
-use Rattle.demodulator.proofs.Doors.{valid-timed, valid-next, Heard, not-refused, refused-stays, accepted-goes}
+use Rattle.demodulator.proofs.Doors.{valid-timed, valid-next, not-refused, refused-stays, accepted-goes}
 use borrow.Author.Needs.{needs}
 use Rattle.demodulator.proofs.Demodulator.sample.Statement.{statement}
 use Rattle.demodulator.proofs.Demodulator.sample.Tie as tie

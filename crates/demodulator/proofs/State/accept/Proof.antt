@@ -1,9 +1,9 @@
 -- `State::accept` meets its contract: zeros for what is missing, then the sample.
 use mathlib.Core.Path.{_≡_, ap, _∙_}
-use Prim.Native.Nat.{ℕ, _+_, _≤_, _^_}
+use Prim.Native.Nat.{ℕ, _≤_, _^_}
 use native.Mathlib.Omega.{arith}
 use lib.Dec.{lit≤}
-use lib.IntN.{pos, _-ℤ_}
+use lib.IntN.{_-ℤ_}
 use mir.Syntax.{w64}
 use mir.Val.{toZ, ofZ}
 use Rattle.dsp_types.specs.Ints.{up}

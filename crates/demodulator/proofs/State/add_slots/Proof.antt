@@ -1,6 +1,6 @@
 -- `State::add_slots` meets its contract, by `set_slot`.
 use mathlib.Core.Path.{_≡_}
-use Prim.Native.Nat.{_%_, _<_, _^_}
+use Prim.Native.Nat.{_%_, _^_}
 use native.Mathlib.Nat.{mod-eq-of-lt}
 use lib.Dec.{lit≤}
 use lib.IntN.{pos, _+ℤ_}

@@ -1,6 +1,5 @@
 -- `State::close_if_ready` meets its contract: by the test.
 use mathlib.Core.Path.{_≡_, sym, _∙_}
-use mathlib.Core.Bool.{Bool, true, false}
 use Prim.Native.Nat.{_^_}
 use lib.Dec.{lit≤}
 use Rattle.demodulator.specs.Receiver.{Receiver, closes, closeIf}

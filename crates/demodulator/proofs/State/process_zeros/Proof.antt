@@ -1,11 +1,10 @@
 -- `State::process_zeros` meets its contract. The loop's invariant: the zeros left, fed from here, end where all of them would.
 use mathlib.Core.Path.{_≡_, refl, ap, sym, _∙_}
-use Prim.Native.Nat.{_+_, _-_, _≤_, _<_, _^_}
+use Prim.Native.Nat.{_+_, _-_, _≤_, _^_}
 use native.Mathlib.Omega.{arith}
-use lib.Dec.{lit≤}
 use lib.IntN.{pos, _-ℤ_}
 use mir.Syntax.{w64}
-use mir.Val.{toZ, SFits}
+use mir.Val.{toZ}
 use mir.ValLaws.{toZ-ofZ, toZ-pos}
 use Rattle.dsp_types.specs.Samples.{silence}
 use Rattle.demodulator.specs.Receiver.{Receiver, processSample}

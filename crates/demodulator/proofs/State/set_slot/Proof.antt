@@ -1,6 +1,4 @@
 -- `State::set_slot` meets its contract: the ready time is what `ready_time` says, and all else stays.
-use mir.Syntax.{w64}
-use mir.ValLaws.{toZ-ofZ}
 use Prim.Native.Nat.{_^_}
 use lib.Dec.{lit≤}
 use Rattle.demodulator.specs.Receiver.{withClock, setSlot}

@@ -1,12 +1,9 @@
 -- `clock::ready_time` meets its contract: a slot begins less than 2^39 samples from the reference time.
 use mathlib.Core.Path.{_≡_}
-use Prim.Native.Nat.{ℕ, _+_, _*_, _≤_, _^_}
+use Prim.Native.Nat.{_+_, _*_, _≤_, _^_}
 use native.Mathlib.Omega.{arith}
 use lib.Dec.{lit≤}
 use lib.IntN.{pos, _+ℤ_}
-use Rattle.demodulator.specs.Bounds.{Within}
-use Rattle.demodulator.specs.Receiver.{slotReadyFromBegin}
-use Rattle.demodulator.specs.View.{modeOf}
 use Rattle.demodulator.proofs.Signed.{read, read-within, wider, within-pos, within-sum, ready-within}
 use borrow.Author.Needs.{needs}
 use Rattle.demodulator.proofs.clock.ready_time.Statement.{statement}

@@ -1,5 +1,5 @@
 -- `clock::slot_ready_from_begin` meets its contract: 3 is `Ul`, and every other number another mode.
-use mathlib.Core.Path.{_≡_, refl, sym}
+use mathlib.Core.Path.{_≡_, refl}
 use mathlib.Core.Bool.{Bool, true, false, cond}
 use Prim.Native.Nat.{ℕ}
 use lib.IntN.{pos}

@@ -1,12 +1,10 @@
 -- `process::missing_samples` meets its contract: the counter is not below the next one, so the difference is not negative.
 use mathlib.Core.Path.{_≡_}
-use Prim.Native.Nat.{ℕ, _<_, _≤_, _^_, min}
-use native.Mathlib.Omega.{arith}
+use Prim.Native.Nat.{_≤_, _^_}
 use lib.Dec.{lit≤}
-use lib.IntN.{ℤ, pos, _-ℤ_}
+use lib.IntN.{_-ℤ_}
 use lib.Signed.{mag}
-use Rattle.dsp_types.specs.Ints.{less, ltZ-false, above-zero}
-use Rattle.demodulator.specs.Calls.{missing}
+use Rattle.dsp_types.specs.Ints.{ltZ-false}
 use Rattle.demodulator.proofs.Signed.{read, read-within, wider, counter-within}
 use Rattle.demodulator.proofs.Samples.{missing-few, missing-many}
 use borrow.Author.Needs.{needs}

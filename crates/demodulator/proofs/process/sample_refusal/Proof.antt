@@ -1,8 +1,6 @@
 -- `process::sample_refusal` meets its contract: the tests in the order of the numbers.
 use mathlib.Core.Path.{_≡_, sym, _∙_}
-use mathlib.Core.Bool.{Bool, true, false, _||_}
-use Prim.Native.Nat.{ℕ}
-use lib.IntN.{pos}
+use mathlib.Core.Bool.{true, false, _||_}
 use lib.Signed.{ltZ}
 use mir.Syntax.{w64}
 use mir.ValLaws.{toZ-ofZ}

@@ -1,7 +1,6 @@
 -- `process::valid_time` meets its contract: by the test of the size.
 use mathlib.Core.Path.{_≡_}
 use mathlib.Core.Bool.{true, false}
-use Prim.Native.Nat.{ℕ}
 use lib.Signed.{mag}
 use lib.Dec.{leb}
 use borrow.Author.Tests.{le-leb, lt-leb}

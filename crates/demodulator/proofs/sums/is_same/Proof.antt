@@ -1,15 +1,13 @@
 -- `sums::is_same` meets its contract: two numbers are the same where their bits are.
 use mathlib.Core.Path.{_≡_, refl, ap, sym, _∙_}
 use mathlib.Core.Bool.{Bool, true, false}
-use Prim.Native.Nat.{_+_}
-use native.Mathlib.Omega.{arith}
 use lib.IntN.{ℤ}
 use lib.Dec.{eqb}
-use borrow.Author.Tests.{eq-eqb, ne-eqb, eqb-true, eqb-false}
+use borrow.Author.Tests.{eqb-true, eqb-false}
 use mir.Syntax.{w64}
 use mir.Val.{SFits, ofZ, toZ}
 use mir.ValLaws.{toZ-ofZ}
-use Rattle.dsp_types.specs.Ints.{eqZ, eqZ-yes, eqZ-no, parts, same, up, dn}
+use Rattle.dsp_types.specs.Ints.{eqZ, eqZ-yes, eqZ-no, parts, same}
 use Rattle.demodulator.proofs.sums.is_same.Statement.{statement}
 use Rattle.demodulator.proofs.sums.is_same.Tie as tie
 
