@@ -8,7 +8,7 @@ ghost use mathlib.Core.Path.{_≡_};
 ghost use Prim.Native.Nat.{_+_, _≤_, _<_};
 ghost use lib.ListN.{length};
 ghost use Rattle.burst_finder.specs.Search.{placings, findSequence, below, findSync};
-ghost use Rattle.burst_finder.specs.Slots.{typeNumber, notFound, checkSequence, checkNormal, checkSlot, getBurst};
+ghost use Rattle.burst_finder.specs.Slots.{mostErrors, typeNumber, notFound, checkSequence, checkNormal, checkSlot, getBurst};
 
 // The best placing of a sequence in bits, and how many bits differ there.
 pub struct Found {
@@ -60,7 +60,11 @@ pub struct Finding {
 
 const ERRS_NO_BURST: usize = 100;
 
-const MAX_ERRS: usize = 1;
+// A training sequence is accepted with at most so many wrong bits.
+pub const MAX_ERRS: usize = 1;
+
+// A placing with so many is not accepted: a search need not look further.
+const TOO_MANY: usize = MAX_ERRS + 1;
 
 // How many even placings a part of m bits has in n bits.
 fn even_placings(n: usize, m: usize) -> usize
@@ -109,14 +113,17 @@ pub fn find_sequence(bits: &[u8], sequence: &[u8]) -> Found
 }
 
 // The search of a receiver that is not synchronized: from bit 216 on, so that the burst found can still be received whole. The place counts from there. A
-// placing with more than one difference would not do: then it is place 0 with 2.
+// placing with more differences than are accepted would not do: then it is place 0 with one more than those.
 pub fn find_sync(bits: &[u8]) -> Found
-    ensures { λ r. ⌜ r ≡ below 2 (findSync (now (bits .entry))) ⌝ }
+    ensures { λ r. ⌜ r ≡ below (mostErrors + 1) (findSync (now (bits .entry))) ⌝ }
 {
     if bits.len() < 216 {
-        return Found { pos: 0, dist: 2 };
+        return Found {
+            pos: 0,
+            dist: TOO_MANY,
+        };
     }
-    find_below(&bits[216..], &SEQ_SYNC, 2)
+    find_below(&bits[216..], &SEQ_SYNC, TOO_MANY)
 }
 
 impl Finding {

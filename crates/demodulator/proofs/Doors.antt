@@ -1,25 +1,22 @@
 -- A receiver as it is read at the door: its numbers are valid ones. Assumes nothing.
 use mathlib.Core.Path.{_≡_, refl}
 use mathlib.Core.Bool.{Bool, true, false, cond, _||_}
-use mathlib.Core.List.{List}
 use Prim.Native.Nat.{ℕ, zero, suc, _+_, _-_, _%_, _≤_, _<_, _^_, min}
 use native.Mathlib.Nat.{mod-lt, min-le-left, min-le-right}
 use native.Mathlib.Omega.{arith}
 use lib.Dec.{leb, lit<}
 use lib.IntN.{ℤ, pos, negsuc, _-ℤ_}
 use lib.Signed.{mag, ltZ}
-use lib.Ieee.{Float}
 use borrow.Author.Tests.{leb-true, ltb-false}
 use Rattle.dsp_types.specs.declared.ComplexSample.{ComplexSample}
 use Rattle.dsp_types.specs.Refusals.{beyond, outOfCount}
 use Rattle.dsp_types.specs.Ints.{up, dn, less}
 use Rattle.dsp_types.specs.Times.{slots}
 use Rattle.dsp_types.specs.Samples.{silence}
-use Rattle.demodulator.specs.Receiver.{Receiver, processSample}
-use Rattle.demodulator.specs.Calls.{validTime, validCount, validClock, valid, sampleRefusal, missing, feedZeros, unless, expecting}
+use Rattle.demodulator.specs.Receiver.{Receiver, withClock, withLock, withNext, processSample, missing, feedZeros}
+use Rattle.demodulator.specs.Valid.{farReference, farReady, lastNext, validTime, validCount, validClock, validLock, valid}
+use Rattle.demodulator.specs.Calls.{sampleRefusal}
 use Rattle.demodulator.specs.Bounds.{Within, Timed, Counter}
-use Rattle.demodulator.specs.declared.State.{State}
-use Rattle.demodulator.specs.View.{receiverOf}
 use Rattle.demodulator.proofs.Samples.{counter-before}
 use Rattle.demodulator.proofs.Steps.{sample-timed, timed-longer}
 
@@ -33,7 +30,7 @@ valid-within most z = go z (leb (mag z) most) refl
     go y false e = record { high = omega arith; low = omega arith }
 
 pub valid-timed : (r : Receiver) → Timed 1 (valid r)
-unfolding valid validClock
+unfolding valid validClock validLock withClock withLock withNext
 valid-timed r =
     record {
       reference = valid-within 549755813888 (r .clock .referenceTime);
@@ -76,15 +73,6 @@ not-refused next x c e = go c (beyond (x .re) || beyond (x .im)) (outOfCount c) 
     go (pos n) false false f false g h = record { counter = record { high = omega (arith, ltb-false 137438953471 n f); low = omega arith }; later = g }
     go (negsuc n) false false f false g h = absurd (let z : _≡_ {A = ℕ} 0 1 = cc in omega arith)
 
-pub refused-stays : {A : Type 0} (n : ℕ) (after before : A) → (n ≡ 0 → ⊥) → before ≡ unless n after before
-unfolding unless
-refused-stays zero after before h = absurd (h refl)
-refused-stays (suc n) after before h = refl
-
-pub accepted-goes : {A : Type 0} (n : ℕ) (after before : A) → n ≡ 0 → after ≡ unless n after before
-unfolding unless
-accepted-goes n after before h = rw h
-
 -- ---- zeros
 
 pub missing-most : (z : ℤ) → missing z ≤ 1020
@@ -107,35 +95,11 @@ zeros-timed (suc k) j r c l h n t =
     let u = sample-timed j r silence (c -ℤ pos (suc k)) (omega arith) t (counter-before c (suc k) h n) in
     timed-longer (j + suc k) (omega arith) (zeros-timed k (j + 1) (processSample r silence (c -ℤ pos (suc k))) c (omega arith) (omega arith) n u)
 
--- ---- the stored state, one number or more written anew
+-- ---- a receiver with its numbers read
 
-pub valid-view : (s : State) (re im abs : List Float) (reference ready next : ℤ) (slot misses : ℕ)
-    → reference ≡ validTime 549755813888 (s .«reference_time» .0) → ready ≡ validTime 1099511627775 (s .«slot_ready_time» .0)
-    → next ≡ validCount (s .«next_input_sample_count» .0) → slot ≡ s .«current_slot» .0 % slots → misses ≡ min 100 (s .«slots_since_last_valid_burst»)
-    → receiverOf
-    (record {
-      mode = s .mode;
-      «reference_time» = record { 0 = reference };
-      «slot_ready_time» = record { 0 = ready };
-      «current_slot» = record { 0 = slot };
-      «next_input_sample_count» = record { 0 = next };
-      «averaged_timing_error» = s .«averaged_timing_error»;
-      «slots_since_last_valid_burst» = misses;
-      «demodulated_slot_time» = s .«demodulated_slot_time»;
-      «demodulated_slot_available» = s .«demodulated_slot_available»;
-      «full_slot» = s .«full_slot»;
-      subslot1 = s .subslot1;
-      subslot2 = s .subslot2;
-      «matched_filter» = s .«matched_filter»;
-      «past_index» = s .«past_index»;
-    })
-    re
-    im
-    abs
-    ≡ valid (receiverOf s re im abs)
-unfolding receiverOf valid validClock
-valid-view s re im abs reference ready next slot misses a b n o m = rw (a, b, n, o, m)
-
-pub next-view : (s : State) (re im abs : List Float) (next : ℤ) → receiverOf (record { mode = s .mode; «reference_time» = s .«reference_time»; «slot_ready_time» = s .«slot_ready_time»; «current_slot» = s .«current_slot»; «next_input_sample_count» = record { 0 = next }; «averaged_timing_error» = s .«averaged_timing_error»; «slots_since_last_valid_burst» = s .«slots_since_last_valid_burst»; «demodulated_slot_time» = s .«demodulated_slot_time»; «demodulated_slot_available» = s .«demodulated_slot_available»; «full_slot» = s .«full_slot»; subslot1 = s .subslot1; subslot2 = s .subslot2; «matched_filter» = s .«matched_filter»; «past_index» = s .«past_index» }) re im abs ≡ expecting (receiverOf s re im abs) next
-unfolding receiverOf expecting
-next-view s re im abs next = refl
+pub valid-as : (r : Receiver) (reference ready next : ℤ) (slot misses : ℕ) → reference ≡ validTime farReference (r .clock .referenceTime)
+    → ready ≡ validTime farReady (r .clock .slotReadyTime) → next ≡ validCount (r .next) → slot ≡ r .clock .currentSlot % slots → misses ≡ min 100 (r .lock .misses)
+    → withNext (withLock (withClock r (record { referenceTime = reference; slotReadyTime = ready; currentSlot = slot })) (record { timingError = r .lock .timingError; misses = misses })) next
+    ≡ valid r
+unfolding valid validClock validLock
+valid-as r reference ready next slot misses a b n o m = rw (a, b, n, o, m)

@@ -11,11 +11,12 @@ use lib.Ieee.{Float, nan}
 use Rattle.dsp_types.specs.declared.ComplexSample.{ComplexSample}
 use Rattle.demodulator.specs.declared.feed.Stop.{Stop}
 use Rattle.demodulator.specs.declared.feed.Stop.the-variants.{End, Slot, Refused}
-use Rattle.demodulator.specs.Receiver.{Receiver}
-use Rattle.demodulator.specs.Calls.{valid, validCount, sampleRefusal, accept, sampleOf}
-use Rattle.demodulator.specs.Windows.{acceptWindows, sampleWindows}
-use Rattle.demodulator.specs.Feed.{interleaved, handsOver, Block, fedOne, feedOf}
-use Rattle.demodulator.proofs.Doors.{accepted-goes}
+use Rattle.demodulator.specs.Receiver.{Receiver, accept}
+use Rattle.demodulator.specs.Windows.{handsOver, acceptWindows}
+use Rattle.demodulator.specs.Valid.{validCount, valid}
+use Rattle.demodulator.specs.Calls.{Outcome, sampleRefusal, sampled, sampleOutcome}
+use Rattle.demodulator.specs.Feed.{interleaved, Block, fedOne, fedBy, feedOf}
+use Rattle.demodulator.proofs.Outcomes.{kept, sample-refused, sample-accepted}
 
 -- ---- the samples of a row of parts
 
@@ -64,29 +65,23 @@ module _ (all : Block) (k : ℕ) (r : Receiver) (c : ℤ) where
   at-end e = let n : k + 0 ≡ k = omega arith in e ∙ rw n
 
   module _ (x : ComplexSample) (xs : List ComplexSample) (e : all ≡ ahead k (feedOf r (x ∷ xs) c)) where
+    -- the block from this sample on, by what the sample comes to
+    by : (o : Outcome) → sampleOutcome r x c ≡ o
+        → all ≡ ahead k (fedBy (o .reply) r (fedOne (handsOver (o .windows)) (o .receiver) (feedOf (o .receiver) xs (c +ℤ pos 1))))
+    unfolding feedOf
+    by o f =
+        e
+        ∙ ap (λ (q : Outcome). ahead k (fedBy (q .reply) r (fedOne (handsOver (q .windows)) (q .receiver) (feedOf (q .receiver) xs (c +ℤ pos 1))))) f
+
     pub at-refused : (n : ℕ) → n ≡ sampleRefusal (validCount (r .next)) x c → (n ≡ 0 → ⊥) → all ≡ record { taken = k; stop = Refused n; receiver = r }
-    unfolding feedOf fedOne ahead
-    at-refused n f h = e ∙ ap (ahead k) (ap (λ (m : ℕ). fedOne m (handsOver (sampleWindows r x c)) r (sampleOf r x c) (feedOf (sampleOf r x c) xs (c +ℤ pos 1))) (sym f)) ∙ go n h
-      where
-        go : (m : ℕ) → (m ≡ 0 → ⊥)
-            → ahead k (fedOne m (handsOver (sampleWindows r x c)) r (sampleOf r x c) (feedOf (sampleOf r x c) xs (c +ℤ pos 1)))
-            ≡ record { taken = k; stop = Refused m; receiver = r }
-        go zero h = absurd (h refl)
-        go (suc m) h = let n : k + 0 ≡ k = omega arith in rw n
+    unfolding fedBy ahead
+    at-refused n f h = let m : k + 0 ≡ k = omega arith in by (kept n r []) (sample-refused r x c f h) ∙ rw m
 
     module _ (ok : sampleRefusal (validCount (r .next)) x c ≡ 0) (q : Receiver) (g : q ≡ accept (valid r) x c) (b : Bool)
         (w : b ≡ handsOver (acceptWindows (valid r) x c)) where
-      after : sampleOf r x c ≡ q
-      unfolding sampleOf
-      after = sym (accepted-goes _ _ _ ok) ∙ sym g
-
-      windows : handsOver (sampleWindows r x c) ≡ b
-      unfolding sampleWindows
-      windows = ap handsOver (sym (accepted-goes _ _ _ ok)) ∙ sym w
-
-      one : all ≡ ahead k (fedOne 0 b r q (feedOf q xs (c +ℤ pos 1)))
-      unfolding feedOf
-      one = e ∙ rw (ok, windows, after)
+      one : all ≡ ahead k (fedOne b q (feedOf q xs (c +ℤ pos 1)))
+      unfolding fedBy sampled
+      one = by (sampled (valid r) x c) (sample-accepted r x c ok) ∙ rw (← g, ← w)
 
       pub at-slot : b ≡ true → all ≡ record { taken = k + 1; stop = Slot; receiver = q }
       unfolding fedOne ahead

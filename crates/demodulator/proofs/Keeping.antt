@@ -15,10 +15,11 @@ use Rattle.dsp_types.specs.Refusals.{beyond, outOfCount}
 use Rattle.fir.specs.Fir.{lineAfter, outsOf}
 use Rattle.history.specs.History.{heldAfter}
 use Rattle.demodulator.specs.Signal.{Signal, filtered, hear}
-use Rattle.demodulator.specs.Receiver.{Clock, Receiver, listen, tdiff, far, skipIf, arrived, closes, closeIf, processSample}
-use Rattle.demodulator.specs.Calls.{valid, validTime, validClock, validCount, sampleRefusal, missing, feedZeros, expecting, accept}
-use Rattle.demodulator.specs.Windows.{windowIf, windowOf, zerosWindows, acceptWindows}
-use Rattle.demodulator.specs.Feed.{handsOver, Block, feedOf}
+use Rattle.demodulator.specs.Receiver.{Clock, Receiver, withClock, withLock, withNext, withSignal, listen, tdiff, far, skipIf, arrived, closes, closeIf, processSample, missing, feedZeros, accept}
+use Rattle.demodulator.specs.Windows.{handsOver, windowIf, windowOf, zerosWindows, acceptWindows}
+use Rattle.demodulator.specs.Valid.{validTime, validClock, validLock, validCount, valid}
+use Rattle.demodulator.specs.Calls.{sampleRefusal}
+use Rattle.demodulator.specs.Feed.{Block, feedOf}
 use Rattle.demodulator.specs.Quiet.{hearAll, keepAll, magnitudesOf, anyBeyond, Quiet}
 use Rattle.demodulator.proofs.Samples.{out-of-count}
 use Rattle.demodulator.proofs.Feeding.{ahead, at-next}
@@ -55,18 +56,11 @@ module _ (r : Receiver) (c : ℤ) (n : ℕ) (q : QuietAt r c (suc n)) where
   at-counter = ap validCount (q .follows) ∙ valid-counter c (q .low) (omega (arith, q .high))
 
   as-it-is : valid r ≡ r
-  unfolding valid
+  unfolding valid validLock withClock withLock withNext
   as-it-is =
       let e : validCount (r .next) ≡ r .next = at-counter ∙ sym (q .follows) in
       let m : min 100 (r .lock .misses) ≡ r .lock .misses = min-eq-right (q .few) in
-      λ i. record {
-        mode = r .mode;
-        clock = q .clock i;
-        lock = record { timingError = r .lock .timingError; misses = m i };
-        slot = r .slot;
-        next = e i;
-        signal = r .signal;
-      }
+      rw (e, m, q .clock)
 
   not-far : far (tdiff r c) ≡ false
   unfolding far tdiff
@@ -88,7 +82,7 @@ module _ (r : Receiver) (c : ℤ) (n : ℕ) (q : QuietAt r c (suc n)) where
     on-arrival = rw not-far
 
     no-close : closes (arrived r x c) c ≡ false
-    unfolding closes listen
+    unfolding closes listen withSignal
     no-close = rw on-arrival not-closing
 
     only-kept : processSample r x c ≡ listen r x
@@ -98,7 +92,7 @@ module _ (r : Receiver) (c : ℤ) (n : ℕ) (q : QuietAt r c (suc n)) where
     no-zeros : missing (c -ℤ r .next) ≡ 0
     no-zeros = none-missing (c -ℤ r .next) (rw (q .follows) (omega (arith, less c c)))
 
-    accepted : accept r x c ≡ expecting (listen r x) (c +ℤ pos 1)
+    accepted : accept r x c ≡ withNext (listen r x) (c +ℤ pos 1)
     unfolding accept feedZeros
     accepted = rw (no-zeros, only-kept)
 
@@ -115,8 +109,8 @@ module _ (r : Receiver) (c : ℤ) (n : ℕ) (q : QuietAt r c (suc n)) where
         let d : ltZ c c ≡ false = ltZ-no c c (omega arith) in
         rw (at-counter, f, o, d)
 
-  still : (x : ComplexSample) → QuietAt (expecting (listen r x) (c +ℤ pos 1)) (c +ℤ pos 1) n
-  unfolding expecting listen
+  still : (x : ComplexSample) → QuietAt (withNext (listen r x) (c +ℤ pos 1)) (c +ℤ pos 1) n
+  unfolding withNext listen withSignal
   still x = go (c +ℤ pos 1) (sum c (pos 1))
     where
       go : (z : ℤ) → up z + dn c + 0 ≡ dn z + up c + 1 → Quiet (r .clock) (r .lock .misses) z z n
@@ -215,23 +209,33 @@ none : false ≡ handsOver []
 unfolding handsOver
 none = refl
 
+-- a receiver that expects its own counter
+as-next : (r : Receiver) (c : ℤ) → r .next ≡ c → withNext r c ≡ r
+unfolding withNext
+as-next r c e = rw (← e)
+
 pub kept-block : (xs ys : List ComplexSample) (all : Block) (k : ℕ) (r : Receiver) (c : ℤ) → QuietAt r c (length xs) → anyBeyond xs ≡ false
     → all ≡ ahead k (feedOf r (xs ++ ys) c) → all ≡ ahead (k + length xs) (feedOf (keepAll r xs (c +ℤ pos (length xs))) ys (c +ℤ pos (length xs)))
-unfolding anyBeyond keepAll hearAll expecting listen
+unfolding anyBeyond keepAll hearAll withNext listen withSignal
 kept-block [] ys all k r c q f e =
     let n : k + 0 ≡ k = omega arith in
     let z : c +ℤ pos 0 ≡ c = same (c +ℤ pos 0) c (omega (arith, sum c (pos 0))) in
-    let s : record { mode = r .mode; clock = r .clock; lock = r .lock; slot = r .slot; next = c; signal = r .signal } ≡ r =
-    λ i. record { mode = r .mode; clock = r .clock; lock = r .lock; slot = r .slot; next = sym (q .follows) i; signal = r .signal } in
+    let s : keepAll r [] c ≡ r = as-next r c (q .follows) in
     e ∙ rw (n, z, s)
 kept-block (x ∷ xs) ys all k r c q f e =
     let fine = or-no (beyond (x .re) || beyond (x .im)) (anyBeyond xs) f in
     let q1 = still r c (length xs) q x in
     let v = as-it-is r c (length xs) q in
-    let g : expecting (listen r x) (c +ℤ pos 1) ≡ accept (valid r) x c = rw v (sym (accepted r c (length xs) q x)) in
+    let g : withNext (listen r x) (c +ℤ pos 1) ≡ accept (valid r) x c = rw v (sym (accepted r c (length xs) q x)) in
     let w : false ≡ handsOver (acceptWindows (valid r) x c) = rw (v, no-window r c (length xs) q x) none in
-    let d = at-next all k r c x (xs ++ ys) e (not-refused r c (length xs) q x (fine .first)) (expecting (listen r x) (c +ℤ pos 1)) g false w refl in
+    let d = at-next all k r c x (xs ++ ys) e (not-refused r c (length xs) q x (fine .first)) (withNext (listen r x) (c +ℤ pos 1)) g false w refl in
     let n : k + 1 + length xs ≡ k + suc (length xs) = omega arith in
     let z : c +ℤ pos 1 +ℤ pos (length xs) ≡ c +ℤ pos (suc (length xs)) =
     same (c +ℤ pos 1 +ℤ pos (length xs)) (c +ℤ pos (suc (length xs))) (omega (arith, sum c (pos 1), sum (c +ℤ pos 1) (pos (length xs)), sum c (pos (suc (length xs))))) in
-    rw (n, z) at (kept-block xs ys all (k + 1) (expecting (listen r x) (c +ℤ pos 1)) (c +ℤ pos 1) q1 (fine .others) d)
+    rw (n, z) at (kept-block xs ys all (k + 1) (withNext (listen r x) (c +ℤ pos 1)) (c +ℤ pos 1) q1 (fine .others) d)
+
+-- one sample that is only kept is one that is accepted
+pub kept-one : (r : Receiver) (c : ℤ) (n : ℕ) → 0 < n → QuietAt r c n → (x : ComplexSample) → withNext (listen r x) (c +ℤ pos 1) ≡ accept (valid r) x c
+kept-one r c n h q x =
+    let one : QuietAt r c 1 = quiet-fewer 1 (omega arith) q in
+    rw (as-it-is r c 0 one) (sym (accepted r c 0 one x))

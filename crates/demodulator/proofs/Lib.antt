@@ -6,7 +6,8 @@ mod Times
 mod Steps
 mod Doors
 mod Taking
-pub mod Handing
+mod Handing
+mod Outcomes
 mod Feeding
 mod Keeping
 mod Rows

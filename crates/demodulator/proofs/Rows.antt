@@ -93,11 +93,11 @@ samples-long (x ∷ re) (y ∷ im) h = ap suc (samples-long re im (omega arith))
 pub samples-count : (n : ℕ) (re im : List Float) → length re ≡ n → length im ≡ n → length (samplesOf re im) ≡ n
 samples-count n re im u v = samples-long re im (u ∙ sym v) ∙ u
 
-pub whole-block : (re im outRe outIm : List Float) → length re ≡ length im → length re ≤ 1024 → length outRe ≡ 1024 → length outIm ≡ 1024 → blockOf re im outRe outIm ≡ samplesOf re im
+pub whole-block : (re im outRe outIm : List Float) → length re ≡ length im → length re ≤ 512 → length outRe ≡ 512 → length outIm ≡ 512 → blockOf re im outRe outIm ≡ samplesOf re im
 unfolding blockOf
 whole-block re im outRe outIm e l a b =
-    let m : min 1024 (min (length outRe) (length outIm)) ≡ 1024 = omega arith in
-    rw m (take-all 1024 (samplesOf re im) (omega (arith, samples-long re im e)))
+    let m : min 1024 (min (length outRe) (length outIm)) ≡ 512 = omega arith in
+    rw m (take-all 512 (samplesOf re im) (omega (arith, samples-long re im e)))
 
 outs-long : (line xs : List ComplexSample) → length (outsOf line xs) ≡ length xs
 unfolding outsOf

@@ -10,8 +10,7 @@ use borrow.Author.Tests.{le-ltb}
 use Rattle.dsp_types.specs.Ints.{up, dn, less}
 use Rattle.dsp_types.specs.Refusals.{outOfCount}
 use Rattle.dsp_types.specs.Samples.{silence}
-use Rattle.demodulator.specs.Receiver.{Receiver, processSample}
-use Rattle.demodulator.specs.Calls.{missing, feedZeros}
+use Rattle.demodulator.specs.Receiver.{Receiver, processSample, missing, feedZeros}
 use Rattle.demodulator.specs.Bounds.{Counter}
 
 pub out-of-count : (c : ℤ) → (ltZ c (pos 0) || ltZ (pos 137438953471) c) ≡ outOfCount c

@@ -12,14 +12,14 @@ use Rattle.dsp_types.specs.Times.{slotOf, slots}
 use Rattle.dsp_types.specs.Ints.{up, dn}
 use Rattle.demodulator.specs.declared.Mode.{Mode}
 use Rattle.demodulator.specs.declared.State.{State}
-use Rattle.demodulator.specs.Receiver.{Receiver, setSlot, addSlots, withClock, slotsToSkip, far, tdiff, listen, skipIf, arrived, closes, closeIf, processSample, slotReadyFromBegin}
+use Rattle.demodulator.specs.Receiver.{Receiver, withSignal, setSlot, addSlots, withClock, slotsToSkip, far, tdiff, listen, skipIf, arrived, closes, closeIf, processSample, slotReadyFromBegin}
 use Rattle.demodulator.specs.View.{receiverOf}
 use Rattle.demodulator.specs.Bounds.{Within, Timed, Closing, Counter}
 use Rattle.demodulator.proofs.Signed.{wider, within-pos, within-sum, within-difference, ready-within, slot-number, eqZ-true, counter-37}
 use Rattle.demodulator.proofs.Times.{closed-timed}
 
 pub listen-timed : {k : ℕ} (r : Receiver) (x : ComplexSample) → Timed k r → Timed k (listen r x)
-unfolding listen
+unfolding listen withSignal
 listen-timed r x h = record { reference = h .reference; ready = h .ready; current = h .current; misses = h .misses }
 
 pub timed-longer : {k : ℕ} (n : ℕ) {r : Receiver} → k ≤ n → Timed k r → Timed n r

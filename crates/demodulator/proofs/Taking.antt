@@ -1,29 +1,27 @@
 -- A new receiver, a take's bytes and numbers, and an order to follow: laws that their code goes by. Assumes nothing.
 use mathlib.Core.Path.{_≡_, refl, sym, ap, _∙_}
-use mathlib.Core.Bool.{Bool, true, false, cond, not, _||_}
-use mathlib.Core.List.{List, [], _∷_, _++_, append-nil}
-use Prim.Native.Nat.{ℕ, zero, suc, _+_, _≤_, _<_, min}
-use native.Mathlib.Nat.{min-eq-left, min-eq-right}
+use mathlib.Core.Bool.{Bool, true, false, cond, not, _||_, _&&_}
+use mathlib.Core.List.{List, [], _∷_, _++_, map, append-nil}
+use Prim.Native.Nat.{ℕ, zero, suc, _+_, _≤_, _<_, _%_, min}
+use native.Mathlib.Nat.{min-le-left, min-le-right}
 use native.Mathlib.Omega.{arith}
-use lib.Dec.{eqb, lit<}
+use lib.Dec.{eqb, leb, lit<}
 use lib.ListN.{length, getD, set, take, drop, replicate, drop-of-length-le}
-use lib.Seq.{take-all}
-use mathlib.Core.Logic.{⊎-elim}
-use borrow.Author.Tests.{ne-eqb, eqb-true}
+use lib.Seq.{take-all, drop-at, length-take-le}
+use borrow.Author.Tests.{ne-eqb, eqb-true, le-leb}
 use Rattle.dsp_types.specs.Samples.{zeroF, silence}
-use Rattle.dsp_types.specs.Ring.{ring-zeros, sample-zeros, le-or-lt, newest-same}
+use Rattle.dsp_types.specs.Ring.{ring-zeros, sample-zeros, newest-same}
 use Rattle.dsp_types.specs.Refusals.{wrongLength}
-use Rattle.dsp_types.specs.declared.TdmaTime.{TdmaTime}
+use Rattle.dsp_types.specs.Times.{slots}
 use Rattle.history.specs.History.{heldIn, samplesIn}
-use Rattle.burst_finder.specs.Slots.{typeNumber, getBurst}
+use Rattle.burst_finder.specs.Slots.{mostErrors, getBurst}
 use Rattle.demodulator.specs.declared.Mode.{Mode}
 use Rattle.demodulator.specs.declared.Mode.the-variants.{Idle, DlUnsynchronized, Dl, Ul}
-use Rattle.demodulator.specs.declared.SlotBurstFinder.{SlotBurstFinder}
-use Rattle.demodulator.specs.declared.take.TakenView.{TakenView}
-use Rattle.demodulator.specs.declared.take.TakeAnswer.the-variants.{Slot, Refused}
-use Rattle.demodulator.specs.Receiver.{Clock, HandedSlot, Receiver}
-use Rattle.demodulator.specs.Calls.{unless, padded, viewIn, burstView, numbersOf, viewNumbers, takeRefusal, takeTold, takeValues, followRefusal, slotWhen, retuned, followed, followOf}
-use Rattle.demodulator.specs.View.{modeOf, trainOf, finderOf}
+use Rattle.demodulator.specs.declared.RxBurst.{RxBurst}
+use Rattle.demodulator.specs.Receiver.{Clock, BurstView, HandedSlot, Receiver, withMode, withClock, noView}
+use Rattle.demodulator.specs.Valid.{isFound, validView, validSlot}
+use Rattle.demodulator.specs.Calls.{padded, filled, burstShown, shown, takeRefusal, followRefusal, slotWhen, following}
+use Rattle.demodulator.specs.View.{modeOf, modeNumber, modeFollowing, storedView}
 
 -- ---- a new receiver's past
 
@@ -34,6 +32,11 @@ zeros-held = newest-same 2048 zeroF (λ d k. ring-zeros 2048 (lit< tt) d)
 pub zeros-samples : samplesIn (replicate 2048 zeroF) (replicate 2048 zeroF) 0 ≡ replicate 2048 silence
 unfolding samplesIn
 zeros-samples = newest-same 2048 silence (λ d k. sample-zeros 2048 (lit< tt) d)
+
+-- no burst, in whatever bits
+pub no-stored : {b : RxBurst} → b ≡ burstShown noView → (n : ℕ) (bits : List ℕ) → storedView n bits b ≡ noView
+unfolding storedView burstShown noView getBurst
+no-stored e n bits = rw (e, le-leb 0 (length (take n bits)) (omega arith))
 
 -- ---- lent bytes, filled one by one
 
@@ -52,71 +55,78 @@ fill-none bits out = refl
 pub fill-all : (bits out : List ℕ) (i : ℕ) → length out ≤ i → padded i bits ++ drop i out ≡ padded i bits
 fill-all bits out i h = rw (drop-of-length-le out h) (append-nil (padded i bits))
 
--- ---- a stored number for a training sequence
+length-padded : (n : ℕ) (bits : List ℕ) → length (padded n bits) ≡ n
+unfolding padded
+length-padded zero bits = refl
+length-padded (suc n) [] = ap suc (length-padded n [])
+length-padded (suc n) (b ∷ bits) = ap suc (length-padded n bits)
 
-pub type-kept : (n : ℕ) → n ≤ 4 → n ≡ typeNumber (trainOf n)
-unfolding trainOf
-type-kept zero h = refl
-type-kept (suc zero) h = refl
-type-kept (suc (suc zero)) h = refl
-type-kept (suc (suc (suc zero))) h = refl
-type-kept (suc (suc (suc (suc zero)))) h = refl
-type-kept (suc (suc (suc (suc (suc n))))) h = absurd (omega arith)
+-- what is behind the filled bytes is as it was, so that filling may go on from there
+pub fill-on : (n : ℕ) (bits out now : List ℕ) → now ≡ padded n bits ++ drop n out → now ≡ padded n bits ++ drop n now
+fill-on n bits out now e = e ∙ ap (λ (l : List ℕ). padded n bits ++ l) (sym (ap (drop n) e ∙ drop-at (padded n bits) (drop n out) n (length-padded n bits)))
 
-pub type-none : (n : ℕ) → 4 < n → 0 ≡ typeNumber (trainOf n)
-unfolding trainOf
-type-none n h =
-    rw (ne-eqb n 1 (λ e. omega (arith, e)), ne-eqb n 2 (λ e. omega (arith, e)), ne-eqb n 3 (λ e. omega (arith, e)), ne-eqb n 4 (λ e. omega (arith, e)))
+abbrev pub bit : ℕ → ℕ
+bit b = b % 2
 
--- ---- a burst view
+-- a bit that is there, and a zero behind them
+pub bit-at : (bits : List ℕ) (i : ℕ) → i < length bits → getD (map bit bits) i 0 ≡ getD bits i 0 % 2
+bit-at [] i h = absurd (omega arith)
+bit-at (b ∷ bits) zero h = refl
+bit-at (b ∷ bits) (suc i) h = bit-at bits i (omega arith)
 
--- the array has no more than 510 bits
-pub bits-kept : (bits : List ℕ) (n : ℕ) → length bits ≡ 510 → take (min 510 n) bits ≡ take n bits
-bits-kept bits n h =
-    ⊎-elim
-    (λ l. rw (min-eq-left {n = 510} {m = n} l) (take-all 510 bits (omega arith) ∙ sym (take-all n bits (omega arith))))
-    (λ l. rw (min-eq-right {n = n} {m = 510} (omega (arith, l))))
-    (le-or-lt 510 n)
+pub zero-at : (bits : List ℕ) (i : ℕ) → length bits ≤ i → getD (map bit bits) i 0 ≡ 0
+zero-at [] i h = refl
+zero-at (b ∷ bits) zero h = absurd (omega arith)
+zero-at (b ∷ bits) (suc i) h = zero-at bits i (omega arith)
 
-module _ (f : SlotBurstFinder) (burst : List ℕ) (e : burst ≡ getBurst (take (f .«bits_len») (f .bits)) (f .«burst_pos») (f .«burst_len»)) (n : ℕ) where
-  pub view-told : (type : ℕ) → type ≡ typeNumber (trainOf (f .«train_type»))
-      → viewNumbers (record { «train_type» = type; «train_errs» = f .«train_errs»; «burst_len» = length burst }) ≡ numbersOf (burstView n (finderOf f))
-  unfolding viewNumbers numbersOf burstView finderOf
-  view-told type t = rw (t, e)
+-- ---- a stored burst, read
 
-  pub view-filled : (out : List ℕ) → out ≡ padded n burst → out ≡ viewIn n (finderOf f)
-  unfolding viewIn finderOf
-  view-filled out o = rw (o, e)
+length-bits : (bits : List ℕ) → length (map bit bits) ≡ length bits
+length-bits [] = refl
+length-bits (b ∷ bits) = ap suc (length-bits bits)
 
--- ---- a take's answer
+module _ (b : RxBurst) (bits part : List ℕ) (e : part ≡ getBurst bits (b .«burst_pos») (b .«burst_len»)) where
+  view : storedView (length bits) bits b ≡ record { type = b .«train_type»; errors = b .«train_errs»; place = b .«burst_pos»; bits = part }
+  unfolding storedView
+  view = rw (e, take-all (length bits) bits (omega arith))
 
-module _ {n k : ℕ} (e : n ≡ k) where
-  pub take-refused : (h : HandedSlot) → (n ≡ 0 → ⊥) → takeValues (Refused n) ≡ takeTold k h
-  unfolding takeValues takeTold
-  take-refused h r = go n r ∙ ap (λ (m : ℕ). takeTold m h) e
-    where
-      go : (m : ℕ) → (m ≡ 0 → ⊥) → takeValues (Refused m) ≡ takeTold m h
-      go zero t = absurd (t refl)
-      go (suc m) t = refl
+  abbrev test : Bool
+  test = not (eqb (b .«train_type») 0) && (leb (b .«train_type») 4 && (leb (b .«train_errs») mostErrors && not (eqb (length part) 0)))
 
-  -- after a refusal all is as it was
-  pub unless-refused : {A : Type 0} (after before : A) → (n ≡ 0 → ⊥) → before ≡ unless k after before
-  unfolding unless
-  unless-refused {A} after before r = go n r ∙ ap (λ (m : ℕ). unless m after before) e
-    where
-      go : (m : ℕ) → (m ≡ 0 → ⊥) → before ≡ unless m after before
-      go zero t = absurd (t refl)
-      go (suc m) t = refl
+  pub view-found : test ≡ true
+      → validView (storedView (length bits) bits b) ≡ record { type = b .«train_type»; errors = b .«train_errs»; place = b .«burst_pos»; bits = map bit part }
+  unfolding validView isFound
+  view-found t = rw (view, t)
 
-  pub unless-accepted : {A : Type 0} (after before : A) → n ≡ 0 → after ≡ unless k after before
-  unfolding unless
-  unless-accepted after before z = rw (← e, z)
+  pub view-none : test ≡ false → validView (storedView (length bits) bits b) ≡ noView
+  unfolding validView isFound
+  view-none t = rw (view, t)
 
-pub take-told : (n : ℕ) (h : HandedSlot) (time : TdmaTime) (full first second : TakenView) → n ≡ 0 → time .0 ≡ h .time
-    → viewNumbers full ≡ numbersOf (burstView 510 (h .full)) → viewNumbers first ≡ numbersOf (burstView 254 (h .subslot1))
-    → viewNumbers second ≡ numbersOf (burstView 254 (h .subslot2)) → takeValues (Slot time full first second) ≡ takeTold n h
-unfolding takeValues takeTold
-take-told n h time full first second z t a b c = rw (z, t, a, b, c)
+  pub told-found : test ≡ true
+      → record { «train_type» = b .«train_type»; «train_errs» = b .«train_errs»; «burst_pos» = b .«burst_pos»; «burst_len» = length part }
+      ≡ burstShown (validView (storedView (length bits) bits b))
+  unfolding burstShown
+  told-found t = rw (view-found t, length-bits part)
+
+-- the window's bits are the front of those stored
+pub stored-front : (n : ℕ) (bits : List ℕ) (b : RxBurst) → n ≤ length bits → storedView (length (take n bits)) (take n bits) b ≡ storedView n bits b
+unfolding storedView
+stored-front n bits b h =
+    let e : length (take n bits) ≡ n = length-take-le n bits h in
+    rw (e, take-all n (take n bits) (omega arith))
+
+-- a slot as a take tells it, and its bytes
+module _ (h : HandedSlot) where
+  pub slot-told : (time : ℕ) (full first second : RxBurst) → time ≡ h .time % slots → full ≡ burstShown (validView (h .full))
+      → first ≡ burstShown (validView (h .subslot1)) → second ≡ burstShown (validView (h .subslot2))
+      → record { time = record { 0 = time }; full = full; subslot1 = first; subslot2 = second } ≡ shown (validSlot h)
+  unfolding shown validSlot
+  slot-told time full first second t a b c = rw (t, a, b, c)
+
+  pub slot-filled : (slot first second : List ℕ) → slot ≡ padded 510 (validView (h .full) .bits) → first ≡ padded 254 (validView (h .subslot1) .bits)
+      → second ≡ padded 254 (validView (h .subslot2) .bits) → slot ∷ first ∷ second ∷ [] ≡ filled (validSlot h)
+  unfolding filled validSlot
+  slot-filled slot first second a b c = rw (a, b, c)
 
 -- an answered take has slices of the right lengths
 right-length : (l n : ℕ) → not (eqb l n) ≡ false → l ≡ n
@@ -161,31 +171,29 @@ follow-accepted n h = go (eqb n 1) (eqb n 2) (eqb n 3) h
     go false false false e = refl
 
 module _ (r other : Receiver) where
-  pub refused-stays : (n : ℕ) → suc n ≡ followRefusal (r .mode) → r ≡ followOf r other
-  unfolding followOf unless
-  refused-stays n e = rw (← e)
-
-  pub accepted-follows : 0 ≡ followRefusal (r .mode) → followed (other .mode) r other ≡ followOf r other
-  unfolding followOf unless
-  accepted-follows e = rw (← e)
-
-  -- a receiver with this mode and clock, and all else as it was
-  abbrev pub tuned : Mode → Clock → Receiver
-  tuned m c = record { mode = m; clock = c; lock = r .lock; slot = r .slot; next = r .next; signal = r .signal }
-
-  pub follows-search : (m : Mode) → m ≡ DlUnsynchronized → tuned Idle (r .clock) ≡ followed m r other
-  unfolding followed retuned
+  pub follows-search : (m : Mode) → m ≡ DlUnsynchronized → withMode r Idle ≡ following m r other
+  unfolding following
   follows-search m e = rw e
 
   pub follows-lock : (m : Mode) (n : ℕ) → m ≡ Dl → n ≡ slotWhen (r .mode) (other .slot .time) (r .clock .currentSlot)
-      → tuned Ul (record { referenceTime = other .clock .referenceTime; slotReadyTime = r .clock .slotReadyTime; currentSlot = n }) ≡ followed m r other
-  unfolding followed retuned
+      → withMode (withClock r (record { referenceTime = other .clock .referenceTime; slotReadyTime = r .clock .slotReadyTime; currentSlot = n })) Ul
+      ≡ following m r other
+  unfolding following
   follows-lock m n e p = rw (e, p)
 
-  pub follows-none : (n : ℕ) → (n ≡ 1 → ⊥) → (n ≡ 2 → ⊥) → r ≡ followed (modeOf n) r other
-  unfolding modeOf followed
+  pub follows-none : (n : ℕ) → (n ≡ 1 → ⊥) → (n ≡ 2 → ⊥) → r ≡ following (modeOf n) r other
+  unfolding modeOf following
   follows-none n a b = rw (ne-eqb n 1 a, ne-eqb n 2 b) (go (eqb n 3))
     where
-      go : (c : Bool) → r ≡ followed (cond c Ul Idle) r other
+      go : (c : Bool) → r ≡ following (cond c Ul Idle) r other
       go true = refl
       go false = refl
+
+-- the number that is stored
+pub mode-none : (n own : ℕ) → (n ≡ 1 → ⊥) → (n ≡ 2 → ⊥) → own ≡ modeFollowing (modeOf n) own
+unfolding modeOf modeFollowing
+mode-none n own a b = rw (ne-eqb n 1 a, ne-eqb n 2 b) (go (eqb n 3))
+  where
+    go : (c : Bool) → own ≡ modeFollowing (cond c Ul Idle) own
+    go true = refl
+    go false = refl

@@ -14,7 +14,6 @@ use Rattle.dsp_types.specs.Times.{slots, slotOf}
 use Rattle.timing.specs.Tracking.{late, early}
 use Rattle.burst_finder.specs.declared.Found.{Found}
 use Rattle.burst_finder.specs.Search.{findSync}
-use Rattle.burst_finder.specs.Slots.{checkSlot, typeNumber}
 use Rattle.burst_finder.specs.declared.SlotType.the-variants as SlotType
 use Rattle.burst_finder.proofs.Lock.{Placed, placed}
 use Rattle.dsp_types.specs.Samples.{silence, ago}
@@ -22,8 +21,8 @@ use Rattle.timing.specs.Turns.{wholeOf, fractOf}
 use Rattle.slot_bits.proofs.Laws.{length-bits}
 use Rattle.demodulator.specs.declared.Mode.{Mode}
 use Rattle.demodulator.specs.declared.Mode.the-variants.{Idle, DlUnsynchronized, Dl, Ul}
-use Rattle.demodulator.specs.Signal.{Signal, timingOf, bitsOf}
-use Rattle.demodulator.specs.Receiver.{Lock, Receiver, setSlot, addSlots, slotReadyFromBegin, slotTiming, found, notFoundYet, searchWindow, lockAfter, downlinkWindow, uplinkWindow, processPastSamples, moved, later, sooner, trackedLater, trackedSooner, withClock, searchOn, nextSlot, schedule, processed, closeWindow}
+use Rattle.demodulator.specs.Signal.{Signal, timingOf, bitsOf, slotTiming, windowBits}
+use Rattle.demodulator.specs.Receiver.{Lock, Receiver, withMode, withClock, withLock, withWaits, withSlot, setSlot, addSlots, slotReadyFromBegin, foundTime, checked, found, notFoundYet, searchWindow, handOver, lockAfter, downlinkWindow, processPastSamples, moved, later, sooner, trackedLater, trackedSooner, searchOn, nextSlot, schedule, processed, closeWindow}
 use Rattle.demodulator.specs.Bounds.{Within, Timed, Closing}
 use Rattle.demodulator.proofs.Signed.{wider, within-pos, within-sum, within-difference, ready-within, slot-number}
 
@@ -34,8 +33,8 @@ pub bits-long : (s : Signal) (d n : ℕ) → length (bitsOf s d n) ≡ 2 * (n - 
 unfolding bitsOf
 bits-long s d n = length-bits (ago silence (s .past)) d (wholeOf (timingOf s d n)) (fractOf (timingOf s d n)) n
 
-pub sync-placed : (s : Signal) → Placed (findSync (bitsOf s 1024 256))
-sync-placed s = placed (bitsOf s 1024 256) (bits-long s 1024 256)
+pub sync-placed : (s : Signal) → Placed (findSync (windowBits s))
+sync-placed s = placed (windowBits s) (bits-long s 1024 256)
 
 -- ---- sums
 
@@ -54,8 +53,8 @@ found-half z half h =
     halved : suc (507 - 2 * half) / 2 ≡ suc (253 - half)
     halved = omega arith
 
-pub found-reference : (z : ℤ) (f : Found) → Placed f
-    → z -ℤ pos 1018 +ℤ quotZ (pos (f .pos + 2) -ℤ pos 510) (pos 2) *ℤ pos 4 ≡ z -ℤ pos 2034 +ℤ pos (f .pos * 2)
+pub found-reference : (z : ℤ) (f : Found) → Placed f → foundTime z (f .pos) ≡ z -ℤ pos 2034 +ℤ pos (f .pos * 2)
+unfolding foundTime
 found-reference z f p =
     let e : f .pos ≡ 2 * (p .half - 108) = omega (arith, p .place, p .least) in
     rw e (found-half z (p .half - 108) (omega (arith, p .most)))
@@ -71,7 +70,7 @@ back z = same (z +ℤ pos 1 +ℤ negsuc 0) z (omega (arith, sum (z +ℤ pos 1) (
 
 -- tracking: the reference time moves by at most one
 moved-within : {b : ℕ} (t u : Bool) (r : Receiver) → Within b (r .clock .referenceTime) → Within (b + 1) (sooner u (later t r) .clock .referenceTime)
-unfolding later sooner moved
+unfolding later sooner moved withClock withLock
 moved-within {b} true true r h = rw (back (r .clock .referenceTime)) (wider (b + 1) (omega arith) h)
 moved-within {b} true false r h = within-sum (r .clock .referenceTime) (pos 1) h (within-pos {n = 1} 1 (lit≤ tt))
 moved-within {b} false true r h = within-sum {b = 1} (r .clock .referenceTime) (negsuc 0) h (record { high = omega arith; low = lit≤ tt })
@@ -88,7 +87,7 @@ record Kept (r q : Receiver) : Type 0 where
   misses : q .lock .misses ≡ r .lock .misses
 
 moved-kept : (t u : Bool) (r : Receiver) → Kept r (sooner u (later t r))
-unfolding later sooner moved
+unfolding later sooner moved withClock withLock
 moved-kept true true r = record { ready = refl; current = refl; misses = refl }
 moved-kept true false r = record { ready = refl; current = refl; misses = refl }
 moved-kept false true r = record { ready = refl; current = refl; misses = refl }
@@ -144,10 +143,10 @@ module _ (k : ℕ) (r : Receiver) (h : Closing k r) where
       }
 
   search-bounds : (b : Bool) (f : Found) → Placed f → Between k (searchWindow b (f .pos) r)
-  unfolding searchWindow found notFoundYet setSlot
+  unfolding searchWindow found notFoundYet setSlot withMode withClock withLock withSlot
   search-bounds true f p =
       let z = r .clock .slotReadyTime in
-      let w : Within (2 ^ 39) (z -ℤ pos 1018 +ℤ quotZ (pos (f .pos + 2) -ℤ pos 510) (pos 2) *ℤ pos 4) =
+      let w : Within (2 ^ 39) (foundTime z (f .pos)) =
       rw (found-reference z f p) (found-within z (f .pos) (h .ready) (omega (arith, p .place, p .most))) in
       record {
         reference = wider (2 ^ 39 + k) (omega arith) w;
@@ -158,9 +157,9 @@ module _ (k : ℕ) (r : Receiver) (h : Closing k r) where
   search-bounds false f p = record { reference = stays .reference; ready = stays .ready; current = stays .current; misses = stays .misses }
 
   read-bounds : (m : Mode) → Between k (processPastSamples m r)
-  unfolding processPastSamples downlinkWindow uplinkWindow
+  unfolding processPastSamples downlinkWindow handOver withMode withLock withWaits withSlot
   read-bounds Idle = stays
-  read-bounds DlUnsynchronized = search-bounds (leb (findSync (bitsOf (r .signal) 1024 256) .dist) 1) (findSync (bitsOf (r .signal) 1024 256)) (sync-placed (r .signal))
+  read-bounds DlUnsynchronized = search-bounds (leb (findSync (windowBits (r .signal)) .dist) 1) (findSync (windowBits (r .signal))) (sync-placed (r .signal))
   read-bounds Dl =
       record {
         reference = stays .reference;
@@ -168,7 +167,7 @@ module _ (k : ℕ) (r : Receiver) (h : Closing k r) where
         current = stays .current;
         misses =
             omega
-            (arith, h .timed .misses, one-more (r .lock) (slotTiming (r .signal)) (typeNumber (checkSlot SlotType.Dl (bitsOf (r .signal) 1024 256) .«train_type»)));
+            (arith, h .timed .misses, one-more (r .lock) (slotTiming (r .signal)) (checked SlotType.Dl (windowBits (r .signal)) .type));
       }
   read-bounds Ul = record { reference = stays .reference; ready = stays .ready; current = stays .current; misses = stays .misses }
 

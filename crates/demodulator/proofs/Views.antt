@@ -14,20 +14,18 @@ use Rattle.dsp_types.specs.Times.{slotOf}
 use Rattle.timing.specs.Floats.{oneF}
 use Rattle.timing.specs.Tracking.{averagedOf, late, early}
 use Rattle.burst_finder.specs.declared.Found.{Found}
-use Rattle.burst_finder.specs.declared.SlotType.{SlotType}
 use Rattle.burst_finder.specs.declared.SlotType.the-variants as SlotType
 use Rattle.burst_finder.specs.Search.{findSync, below}
 use Rattle.burst_finder.proofs.Turns.{below-close, below-far}
 use Rattle.burst_finder.proofs.Lock.{Placed}
-use Rattle.burst_finder.specs.Slots.{checkSlot, notFound, typeNumber}
 use Rattle.demodulator.specs.declared.Mode.{Mode}
 use Rattle.demodulator.specs.declared.Mode.the-variants.{Idle, DlUnsynchronized, Dl, Ul}
-use Rattle.demodulator.specs.declared.SlotBurstFinder.{SlotBurstFinder}
 use Rattle.demodulator.specs.declared.State.{State}
+use Rattle.demodulator.specs.declared.Demodulator.{Demodulator}
 use Rattle.demodulator.specs.declared.window.Window.{Window}
-use Rattle.demodulator.specs.Signal.{Signal, timingOf, bitsOf}
-use Rattle.demodulator.specs.Receiver.{Lock, HandedSlot, Receiver, setSlot, searched, checked, slotTiming, emptied, found, notFoundYet, searchWindow, lockAfter, modeAfter, handed, downlinkWindow, uplinkSlot, uplinkWindow, processPastSamples, moved, later, sooner, trackedLater, trackedSooner, withClock, searchOn, schedule}
-use Rattle.demodulator.specs.View.{modeOf, finderOf, signalFrom, receiverOf, Finds, Reads}
+use Rattle.demodulator.specs.Signal.{timingOf, bitsOf, slotTiming, windowBits}
+use Rattle.demodulator.specs.Receiver.{Lock, BurstView, Receiver, withMode, withClock, withLock, withSlot, setSlot, checked, emptied, found, notFoundYet, searchWindow, handOver, lockAfter, modeAfter, downlinkSlot, downlinkWindow, uplinkSlot, processPastSamples, moved, later, sooner, trackedLater, trackedSooner, searchOn, schedule}
+use Rattle.demodulator.specs.View.{modeOf, modeNumber, signalFrom, receiverOf, Untouched, Reads}
 use Rattle.demodulator.proofs.Times.{found-reference, sync-placed}
 
 -- ---- modes
@@ -48,6 +46,13 @@ pub mode-uplink : (n : ℕ) → n ≡ 3 → modeOf n ≡ Ul
 unfolding modeOf
 mode-uplink n e = rw e
 
+pub mode-stored : (m : Mode) → modeOf (modeNumber m) ≡ m
+unfolding modeOf modeNumber
+mode-stored Idle = refl
+mode-stored DlUnsynchronized = refl
+mode-stored Dl = refl
+mode-stored Ul = refl
+
 -- fewer than 100 misses keep a receiver locked
 pub mode-locked : (n misses : ℕ) → n ≡ 2 → misses < 100 → modeOf n ≡ modeAfter misses
 unfolding modeAfter
@@ -65,25 +70,12 @@ pub heard : (s : State) (re im abs : List Float) {d n : ℕ} {w : Window} → Re
 unfolding receiverOf signalFrom timingOf bitsOf
 heard s re im abs h = record { timing = h .timing; bits = h .bits }
 
-module _ (s : Signal) (d n : ℕ) (w : Window) (read : Reads s d n w) (f : SlotBurstFinder) where
-  is-searched : Finds f (take (2 * (n - 1)) (w .bits)) notFound → finderOf f ≡ searched s d n
-  unfolding searched
-  is-searched h = h .finder ∙ rw (read .bits)
-
-  is-checked : (k : SlotType) → Finds f (take (2 * (n - 1)) (w .bits)) (checkSlot k (take (2 * (n - 1)) (w .bits))) → finderOf f ≡ checked k s d n
-  unfolding checked
-  is-checked k h = h .finder ∙ rw (read .bits)
-
-  checked-number : (k : SlotType) → Finds f (take (2 * (n - 1)) (w .bits)) (checkSlot k (take (2 * (n - 1)) (w .bits)))
-      → f .«train_type» ≡ typeNumber (checkSlot k (bitsOf s d n) .«train_type»)
-  checked-number k h = h .number ∙ rw (read .bits)
-
 -- ---- a search window
 
 -- the place of the synchronization sequence, and its errors
 module _ (r : Receiver) (w : Window) (read : Reads (r .signal) 1024 256 w) (b : Found) (at : b ≡ below 2 (findSync (take 510 (w .bits)))) where
   abbrev all : Found
-  all = findSync (bitsOf (r .signal) 1024 256)
+  all = findSync (windowBits (r .signal))
 
   there : b ≡ below 2 all
   there = at ∙ rw (read .bits)
@@ -94,44 +86,25 @@ module _ (r : Receiver) (w : Window) (read : Reads (r .signal) 1024 256 w) (b : 
   pub found-place : b .dist ≤ 1 → b .pos ≤ 256
   found-place h = let p : Placed b = rw (best h) (sync-placed (r .signal)) in omega (arith, p .place, p .most)
 
-  module _ (f : SlotBurstFinder) (empty : Finds f (take 510 (w .bits)) notFound) where
-    -- the waiting slot loses its finding
-    abbrev pub emptiedSlot : ℕ → HandedSlot
-    emptiedSlot time = record { available = r .slot .available; time = time; full = finderOf f; subslot1 = r .slot .subslot1; subslot2 = r .slot .subslot2 }
+  pub search-missed : 1 < b .dist → withSlot r (emptied (r .slot) (r .slot .time)) ≡ processPastSamples DlUnsynchronized r
+  unfolding processPastSamples searchWindow notFoundYet
+  search-missed h = rw (lt-leb (all .dist) 1 (below-far 1 b all there h))
 
-    pub search-missed : 1 < b .dist
-        → _≡_ {A = Receiver} (record { mode = r .mode; clock = r .clock; lock = r .lock; slot = emptiedSlot (r .slot .time); next = r .next; signal = r .signal })
-        (processPastSamples DlUnsynchronized r)
-    unfolding processPastSamples searchWindow notFoundYet emptied
-    search-missed h = rw (is-searched (r .signal) 1024 256 w read f empty, lt-leb (all .dist) 1 (below-far 1 b all there h))
-
-    pub search-found : (m : Mode) (z : ℤ) (e : Float) → b .dist ≤ 1 → m ≡ DlUnsynchronized
-        → z ≡ r .clock .slotReadyTime -ℤ pos 2034 +ℤ pos (b .pos * 2) → e ≡ averagedOf zeroF (w .timing)
-        → _≡_ {A = Receiver}
-        (record {
-          mode = Dl;
-          clock = setSlot m z 283115519;
-          lock = record { timingError = e; misses = 0 };
-          slot = emptiedSlot 0;
-          next = r .next;
-          signal = r .signal;
-        })
-        (processPastSamples DlUnsynchronized r)
-    unfolding processPastSamples searchWindow found emptied slotOf slotTiming
-    search-found m z e h p q t =
-        rw (is-searched (r .signal) 1024 256 w read f empty, ← best h, le-leb (b .dist) 1 h, found-reference (r .clock .slotReadyTime) b (rw (best h) (sync-placed (r .signal))), p, q, t, read .timing)
+  pub search-found : (m : Mode) (z : ℤ) (e : Float) → b .dist ≤ 1 → m ≡ DlUnsynchronized
+      → z ≡ r .clock .slotReadyTime -ℤ pos 2034 +ℤ pos (b .pos * 2) → e ≡ averagedOf zeroF (w .timing)
+      → withMode (withClock (withLock (withSlot r (emptied (r .slot) 0)) (record { timingError = e; misses = 0 })) (setSlot m z 283115519)) Dl
+      ≡ processPastSamples DlUnsynchronized r
+  unfolding processPastSamples searchWindow found slotOf slotTiming
+  search-found m z e h p q t =
+      rw (← best h, le-leb (b .dist) 1 h, found-reference (r .clock .slotReadyTime) b (rw (best h) (sync-placed (r .signal))), p, q, t, read .timing)
 
 -- ---- a slot that is handed over
 
-pub handed-over : (r : Receiver) (w : Window) (f : SlotBurstFinder) → Reads (r .signal) 1024 256 w
-    → Finds f (take 510 (w .bits)) (checkSlot SlotType.Dl (take 510 (w .bits))) → (m : Mode) (l : Lock)
-    → l ≡ lockAfter (r .lock) (w .timing) (f .«train_type») → m ≡ modeAfter (l .misses)
-    → _≡_ {A = Receiver}
-    (record { mode = m; clock = r .clock; lock = l; slot = handed (r .slot) (r .clock .currentSlot) (finderOf f); next = r .next; signal = r .signal })
-    (processPastSamples Dl r)
+pub handed-over : (r : Receiver) (w : Window) (v : BurstView) (type : ℕ) → Reads (r .signal) 1024 256 w → v ≡ checked SlotType.Dl (take 510 (w .bits))
+    → type ≡ checked SlotType.Dl (take 510 (w .bits)) .type → (m : Mode) (l : Lock) → l ≡ lockAfter (r .lock) (w .timing) type → m ≡ modeAfter (l .misses)
+    → handOver (withMode (withLock r l) m) (downlinkSlot (r .slot) (r .clock .currentSlot) v) ≡ processPastSamples Dl r
 unfolding processPastSamples downlinkWindow slotTiming
-handed-over r w f read g m l p q =
-    rw (q, p, is-checked (r .signal) 1024 256 w read f SlotType.Dl g, checked-number (r .signal) 1024 256 w read f SlotType.Dl g, read .timing)
+handed-over r w v type read f g m l p q = rw (q, p, g, f, read .bits, read .timing)
 
 -- the lock after a slot with a training sequence, and after one without
 pub hit : (l : Lock) (timing error : Float) (type : ℕ) → (type ≡ 0 → ⊥) → error ≡ averagedOf (l .timingError) timing
@@ -144,24 +117,12 @@ pub miss : (l : Lock) (timing : Float) (type : ℕ) → type ≡ 0 → record { 
 unfolding lockAfter
 miss l timing type e = rw (e, add-one (l .misses))
 
--- an uplink slot, with its halves
-pub uplinked : (r : Receiver) (w w1 w2 : Window) (f f1 f2 : SlotBurstFinder) (time : ℕ) → Reads (r .signal) 1024 256 w → Reads (r .signal) 1024 128 w1
-    → Reads (r .signal) 514 128 w2 → Finds f (take 510 (w .bits)) (checkSlot SlotType.UlFull (take 510 (w .bits)))
-    → Finds f1 (take 254 (w1 .bits)) (checkSlot SlotType.UlSub (take 254 (w1 .bits))) → Finds f2 (take 254 (w2 .bits)) (checkSlot SlotType.UlSub (take 254 (w2 .bits)))
-    → time ≡ slotOf (pos (r .clock .currentSlot) -ℤ pos 2)
-    → _≡_ {A = Receiver}
-    (record {
-      mode = r .mode;
-      clock = r .clock;
-      lock = r .lock;
-      slot = record { available = true; time = time; full = finderOf f; subslot1 = finderOf f1; subslot2 = finderOf f2 };
-      next = r .next;
-      signal = r .signal;
-    })
-    (processPastSamples Ul r)
-unfolding processPastSamples uplinkWindow uplinkSlot
-uplinked r w w1 w2 f f1 f2 time read read1 read2 g g1 g2 t =
-    rw (t, is-checked (r .signal) 1024 256 w read f SlotType.UlFull g, is-checked (r .signal) 1024 128 w1 read1 f1 SlotType.UlSub g1, is-checked (r .signal) 514 128 w2 read2 f2 SlotType.UlSub g2)
+pub uplinked : (r : Receiver) (w w1 w2 : Window) (v v1 v2 : BurstView) (time : ℕ) → Reads (r .signal) 1024 256 w → Reads (r .signal) 1024 128 w1
+    → Reads (r .signal) 514 128 w2 → v ≡ checked SlotType.UlFull (take 510 (w .bits)) → v1 ≡ checked SlotType.UlSub (take 254 (w1 .bits))
+    → v2 ≡ checked SlotType.UlSub (take 254 (w2 .bits)) → time ≡ slotOf (pos (r .clock .currentSlot) -ℤ pos 2)
+    → handOver r (record { time = time; full = v; subslot1 = v1; subslot2 = v2 }) ≡ processPastSamples Ul r
+unfolding processPastSamples uplinkSlot
+uplinked r w w1 w2 v v1 v2 time read read1 read2 g g1 g2 t = rw (t, g, g1, g2, read .bits, read1 .bits, read2 .bits)
 
 -- ---- tracking
 
@@ -169,14 +130,9 @@ module _ (r : Receiver) where
   -- the reference time and the averaged error are these, and all else is as it was
   abbrev pub shifted : ℤ → Float → Receiver
   shifted z e =
-      record {
-        mode = r .mode;
-        clock = record { referenceTime = z; slotReadyTime = r .clock .slotReadyTime; currentSlot = r .clock .currentSlot };
-        lock = record { timingError = e; misses = r .lock .misses };
-        slot = r .slot;
-        next = r .next;
-        signal = r .signal;
-      }
+      withLock
+      (withClock r (record { referenceTime = z; slotReadyTime = r .clock .slotReadyTime; currentSlot = r .clock .currentSlot }))
+      (record { timingError = e; misses = r .lock .misses })
 
   pub shifted-later : (z : ℤ) → late (r .lock .timingError) ≡ true → z ≡ r .clock .referenceTime +ℤ pos 1
       → shifted z (sub binary32 (r .lock .timingError) oneF) ≡ trackedLater r
@@ -199,15 +155,12 @@ module _ (r : Receiver) where
 -- ---- the next search window
 
 pub searched-on : (r : Receiver) (z : ℤ) → z ≡ r .clock .slotReadyTime +ℤ pos 400
-    → _≡_ {A = Receiver}
-    (record {
-      mode = r .mode;
-      clock = record { referenceTime = r .clock .referenceTime; slotReadyTime = z; currentSlot = r .clock .currentSlot };
-      lock = r .lock;
-      slot = r .slot;
-      next = r .next;
-      signal = r .signal;
-    })
-    (schedule DlUnsynchronized r)
-unfolding schedule withClock searchOn
+    → withClock r (record { referenceTime = r .clock .referenceTime; slotReadyTime = z; currentSlot = r .clock .currentSlot }) ≡ schedule DlUnsynchronized r
+unfolding schedule searchOn
 searched-on r z e = rw e
+
+-- ---- a call that left all as it was
+
+pub as-given : (d : Demodulator) {s : State} {re im abs : List Float} → Untouched (d .state) s (d .past .re) re (d .past .im) im (d .past .abs) abs
+    → _≡_ {A = Demodulator} (record { state = s; past = record { re = re; im = im; abs = abs } }) d
+as-given d u = λ i. record { state = u .state i; past = record { re = u .past-re i; im = u .past-im i; abs = u .past-abs i } }

@@ -1,12 +1,13 @@
 -- Bounds that keep the receiver's sums within 64 bits, and its skipped slots within 32 (01: "a shown bound"). Definitions only.
-use Prim.Native.Nat.{ℕ, _+_, _≤_, _<_, _^_}
+use Prim.Native.Nat.{ℕ, _+_, _-_, _≤_, _<_, _^_}
 use mathlib.Core.Path.{_≡_}
-use mathlib.Core.Bool.{false}
+use mathlib.Core.Bool.{Bool, false, _||_}
 use lib.IntN.{ℤ}
 use lib.Signed.{ltZ}
 use Rattle.dsp_types.specs.Ints.{up, dn}
 use Rattle.dsp_types.specs.Times.{slots}
-use Rattle.demodulator.specs.Receiver.{Receiver}
+use Rattle.demodulator.specs.Receiver.{Receiver, feedZeros}
+use Rattle.demodulator.specs.Windows.{handsOver, zerosWindows}
 
 -- z is at most m either side of 0
 pub record Within (m : ℕ) (z : ℤ) : Type 0 where
@@ -37,3 +38,18 @@ pub record Accepts (r : Receiver) (c : ℤ) : Type 0 where
   pub next : Within (2 ^ 37) (r .next)
   pub low : dn (r .next) ≤ 0
   pub later : ltZ c (r .next) ≡ false
+
+-- k zeros of at most 1,020 are left to be fed before the counter c
+pub record Catching (k : ℕ) (r : Receiver) (c : ℤ) : Type 0 where
+  pub timed : Timed (1021 - k) r
+  pub counter : Counter c
+  pub most : k ≤ 1020
+  pub above-zero : k ≤ up c
+
+-- after some of k zeros n are left: to feed those comes to the same as to feed all k. One that hands a slot over is the last of them
+pub record Caught (k : ℕ) (r : Receiver) (c : ℤ) (n : ℕ) (handed : Bool) (after : Receiver) : Type 0 where
+  pub less : 0 < k → n < k
+  pub all : handed ≡ false → n ≡ 0
+  pub timed : Timed (1021 - n) after
+  pub receiver : feedZeros k r c ≡ feedZeros n after c
+  pub windows : handsOver (zerosWindows k r c) ≡ (handed || handsOver (zerosWindows n after c))

@@ -1,8 +1,9 @@
 pub mod Signal
 pub mod Receiver
-pub mod Calls
 pub mod Windows
+pub mod Valid
+pub mod Calls
+pub mod Feed
 pub mod View
 pub mod Bounds
-pub mod Feed
 pub mod Quiet

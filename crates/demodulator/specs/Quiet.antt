@@ -12,8 +12,8 @@ use Rattle.dsp_types.specs.Refusals.{beyond}
 use Rattle.fir.specs.Fir.{samplesOf}
 use Rattle.magnitude.specs.Magnitude.{magnitudeOf}
 use Rattle.demodulator.specs.Signal.{Signal, hear}
-use Rattle.demodulator.specs.Receiver.{Clock, Receiver}
-use Rattle.demodulator.specs.Calls.{validClock}
+use Rattle.demodulator.specs.Receiver.{Clock, Receiver, withNext, withSignal}
+use Rattle.demodulator.specs.Valid.{validClock}
 
 -- samples one by one, oldest first
 unfoldable pub hearAll : Signal → List ComplexSample → Signal
@@ -22,7 +22,7 @@ hearAll s (x ∷ xs) = hearAll (hear s x) xs
 
 -- they are kept, and the next counter is c
 unfoldable pub keepAll : Receiver → List ComplexSample → ℤ → Receiver
-keepAll r xs c = record { mode = r .mode; clock = r .clock; lock = r .lock; slot = r .slot; next = c; signal = hearAll (r .signal) xs }
+keepAll r xs c = withNext (withSignal r (hearAll (r .signal) xs)) c
 
 unfoldable pub magnitudesOf : List ComplexSample → List Float
 magnitudesOf = map (λ s. magnitudeOf (s .re) (s .im))

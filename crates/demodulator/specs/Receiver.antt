@@ -1,6 +1,6 @@
 -- The receiver after demodulator.rs: its state, and what each stage makes of it (01, "Times", "The receiver"). Definitions only.
 -- The stages bear the names of the source: `process_sample` is `processSample`, and so on.
-use Prim.Native.Nat.{ℕ, zero, suc, _+_, _*_}
+use Prim.Native.Nat.{ℕ, zero, suc, _+_, _*_, min}
 use mathlib.Core.Bool.{Bool, true, false, cond, _||_}
 use mathlib.Core.List.{List, []}
 use lib.Dec.{leb}
@@ -8,7 +8,7 @@ use lib.IntN.{ℤ, pos, negsuc, negℤ, _+ℤ_, _-ℤ_, _*ℤ_}
 use lib.Signed.{ltZ, quotZ}
 use lib.Ieee.{Float, binary32, add, sub}
 use Rattle.dsp_types.specs.declared.ComplexSample.{ComplexSample}
-use Rattle.dsp_types.specs.Samples.{zeroF}
+use Rattle.dsp_types.specs.Samples.{zeroF, silence}
 use Rattle.dsp_types.specs.Times.{slotOf, divEuclid}
 use Rattle.dsp_types.specs.Ints.{eqZ}
 use Rattle.timing.specs.Floats.{oneF}
@@ -17,10 +17,10 @@ use Rattle.burst_finder.specs.declared.Finding.{Finding}
 use Rattle.burst_finder.specs.declared.SlotType.{SlotType}
 use Rattle.burst_finder.specs.declared.SlotType.the-variants as SlotType
 use Rattle.burst_finder.specs.Search.{findSync}
-use Rattle.burst_finder.specs.Slots.{checkSlot, notFound, typeNumber}
+use Rattle.burst_finder.specs.Slots.{mostErrors, checkSlot, typeNumber, getBurst}
 use Rattle.demodulator.specs.declared.Mode.{Mode}
 use Rattle.demodulator.specs.declared.Mode.the-variants.{Idle, DlUnsynchronized, Dl, Ul}
-use Rattle.demodulator.specs.Signal.{Signal, quiet, hear, timingOf, bitsOf}
+use Rattle.demodulator.specs.Signal.{Signal, quiet, hear, timingOf, bitsOf, slotTiming, windowBits}
 
 -- the slot timing: when hyperframe number 0 began and when the current slot's window closes, both in samples with the filter's
 -- delay taken off, and the current slot's number
@@ -29,18 +29,19 @@ pub record Clock : Type 0 where
   pub slotReadyTime : ℤ
   pub currentSlot : ℕ
 
--- a window's bits and the burst found in them (`SlotBurstFinder`)
-pub record Finder : Type 0 where
+-- 01's "burst view": type and errors of what was found in a window, its place there, and its part of the window's bits
+pub record BurstView : Type 0 where
+  pub type : ℕ
+  pub errors : ℕ
+  pub place : ℕ
   pub bits : List ℕ
-  pub finding : Finding
 
--- the slot that was handed over last: whether it waits to be taken, its number, and what was found in it and in its halves
+-- a slot that was handed over (`RxSlotBits`): its number, and the views of the full slot and of its halves
 pub record HandedSlot : Type 0 where
-  pub available : Bool
   pub time : ℕ
-  pub full : Finder
-  pub subslot1 : Finder
-  pub subslot2 : Finder
+  pub full : BurstView
+  pub subslot1 : BurstView
+  pub subslot2 : BurstView
 
 -- how good the lock is: the averaged timing error, and handed slots in a row without a training sequence
 pub record Lock : Type 0 where
@@ -51,10 +52,35 @@ pub record Receiver : Type 0 where
   pub mode : Mode
   pub clock : Clock
   pub lock : Lock
+  -- whether the slot that was handed over last waits to be taken
+  pub waits : Bool
   pub slot : HandedSlot
   -- the counter after the last accepted sample
   pub next : ℤ
   pub signal : Signal
+
+-- ---- a receiver with one part anew
+
+unfoldable pub withMode : Receiver → Mode → Receiver
+withMode r m = record { mode = m; clock = r .clock; lock = r .lock; waits = r .waits; slot = r .slot; next = r .next; signal = r .signal }
+
+unfoldable pub withClock : Receiver → Clock → Receiver
+withClock r c = record { mode = r .mode; clock = c; lock = r .lock; waits = r .waits; slot = r .slot; next = r .next; signal = r .signal }
+
+unfoldable pub withLock : Receiver → Lock → Receiver
+withLock r l = record { mode = r .mode; clock = r .clock; lock = l; waits = r .waits; slot = r .slot; next = r .next; signal = r .signal }
+
+unfoldable pub withWaits : Receiver → Bool → Receiver
+withWaits r b = record { mode = r .mode; clock = r .clock; lock = r .lock; waits = b; slot = r .slot; next = r .next; signal = r .signal }
+
+unfoldable pub withSlot : Receiver → HandedSlot → Receiver
+withSlot r h = record { mode = r .mode; clock = r .clock; lock = r .lock; waits = r .waits; slot = h; next = r .next; signal = r .signal }
+
+unfoldable pub withNext : Receiver → ℤ → Receiver
+withNext r c = record { mode = r .mode; clock = r .clock; lock = r .lock; waits = r .waits; slot = r .slot; next = c; signal = r .signal }
+
+unfoldable pub withSignal : Receiver → Signal → Receiver
+withSignal r s = record { mode = r .mode; clock = r .clock; lock = r .lock; waits = r .waits; slot = r .slot; next = r .next; signal = s }
 
 -- ---- slot timing
 
@@ -74,13 +100,30 @@ setSlot m reference s =
 unfoldable pub addSlots : Mode → Clock → ℤ → Clock
 addSlots m c k = setSlot m (c .referenceTime) (slotOf (pos (c .currentSlot) +ℤ k))
 
+-- ---- burst views
+
+-- 01: with nothing found the view is empty, at 0, with 100 errors
+unfoldable pub noView : BurstView
+noView = record { type = 0; errors = 100; place = 0; bits = [] }
+
+-- the view of what was found in a window's bits: its part of them is what `get_burst` returns
+unfoldable pub viewOn : List ℕ → Finding → BurstView
+viewOn bits f =
+    record {
+      type = typeNumber (f .«train_type»);
+      errors = f .«train_errs»;
+      place = f .«burst_pos»;
+      bits = getBurst bits (f .«burst_pos») (f .«burst_len»);
+    }
+
+-- a window's bits, checked as a slot of this type
+unfoldable pub checked : SlotType → List ℕ → BurstView
+checked k bits = viewOn bits (checkSlot k bits)
+
 -- ---- a new receiver
 
-unfoldable pub noFinder : Finder
-noFinder = record { bits = []; finding = notFound }
-
 unfoldable pub noSlot : HandedSlot
-noSlot = record { available = false; time = 0; full = noFinder; subslot1 = noFinder; subslot2 = noFinder }
+noSlot = record { time = 0; full = noView; subslot1 = noView; subslot2 = noView }
 
 unfoldable pub new : Mode → Receiver
 new m =
@@ -88,6 +131,7 @@ new m =
       mode = m;
       clock = setSlot m (pos 0) 0;
       lock = record { timingError = zeroF; misses = 0 };
+      waits = false;
       slot = noSlot;
       next = pos 0;
       signal = quiet;
@@ -95,42 +139,36 @@ new m =
 
 -- ---- `process_slot`, for each mode
 
--- the finder of a window of n symbols that starts d samples ago
-unfoldable pub searched : Signal → ℕ → ℕ → Finder
-searched s d n = record { bits = bitsOf s d n; finding = notFound }
+-- a search window empties the view of the full slot, also of one that waits
+unfoldable pub emptied : HandedSlot → ℕ → HandedSlot
+emptied h time = record { time = time; full = noView; subslot1 = h .subslot1; subslot2 = h .subslot2 }
 
-unfoldable pub checked : SlotType → Signal → ℕ → ℕ → Finder
-checked k s d n = record { bits = bitsOf s d n; finding = checkSlot k (bitsOf s d n) }
+-- the reference time at a find with the sequence's first bit at 216 + place: one slot before the burst found began, by the source's
+-- own comment "so that this burst will get demodulated in slot number 0". The catch-up skips that slot: 01 has the burst as slot 1
+unfoldable pub foundTime : ℤ → ℕ → ℤ
+foundTime ready place = ready -ℤ pos 1018 +ℤ quotZ (pos (place + 2) -ℤ pos 510) (pos 2) *ℤ pos 4
 
--- the timing of a full slot's window
-unfoldable pub slotTiming : Signal → Float
-slotTiming s = timingOf s 1024 256
-
--- a search window leaves the waiting slot without a finding
-unfoldable pub emptied : HandedSlot → ℕ → Signal → HandedSlot
-emptied h time s =
-    record { available = h .available; time = time; full = searched s 1024 256; subslot1 = h .subslot1; subslot2 = h .subslot2 }
-
--- DlUnsynchronized: the synchronization sequence was found with its first bit at 216 + place. The burst is to be slot 0, and the
--- step to the next slot makes the current one that
+-- DlUnsynchronized, the synchronization sequence found: the step to the next slot makes the current one 0
 unfoldable pub found : Receiver → ℕ → Receiver
 found r place =
-    record {
-      mode = Dl;
-      clock = setSlot DlUnsynchronized (r .clock .slotReadyTime -ℤ pos 1018 +ℤ quotZ (pos (place + 2) -ℤ pos 510) (pos 2) *ℤ pos 4) (slotOf (negsuc 0));
-      lock = record { timingError = averagedOf zeroF (slotTiming (r .signal)); misses = 0 };
-      slot = emptied (r .slot) 0 (r .signal);
-      next = r .next;
-      signal = r .signal;
-    }
+    withMode
+    (withClock
+    (withLock
+    (withSlot r (emptied (r .slot) 0))
+    (record { timingError = averagedOf zeroF (slotTiming (r .signal)); misses = 0 }))
+    (setSlot DlUnsynchronized (foundTime (r .clock .slotReadyTime) place) (slotOf (negsuc 0))))
+    Dl
 
 unfoldable pub notFoundYet : Receiver → Receiver
-notFoundYet r =
-    record { mode = r .mode; clock = r .clock; lock = r .lock; slot = emptied (r .slot) (r .slot .time) (r .signal); next = r .next; signal = r .signal }
+notFoundYet r = withSlot r (emptied (r .slot) (r .slot .time))
 
 unfoldable pub searchWindow : Bool → ℕ → Receiver → Receiver
 searchWindow true place r = found r place
 searchWindow false place r = notFoundYet r
+
+-- a slot is handed over: it waits to be taken
+unfoldable pub handOver : Receiver → HandedSlot → Receiver
+handOver r h = withWaits (withSlot r h) true
 
 -- Dl: the slot is handed over with its number; the hundredth miss in a row returns to search
 unfoldable pub lockAfter : Lock → Float → ℕ → Lock
@@ -140,48 +178,37 @@ lockAfter l timing (suc type) = record { timingError = averagedOf (l .timingErro
 unfoldable pub modeAfter : ℕ → Mode
 modeAfter misses = cond (leb 100 misses) DlUnsynchronized Dl
 
-unfoldable pub handed : HandedSlot → ℕ → Finder → HandedSlot
-handed h time f = record { available = true; time = time; full = f; subslot1 = h .subslot1; subslot2 = h .subslot2 }
+unfoldable pub downlinkSlot : HandedSlot → ℕ → BurstView → HandedSlot
+downlinkSlot h time v = record { time = time; full = v; subslot1 = h .subslot1; subslot2 = h .subslot2 }
 
-unfoldable pub downlinkWindow : Finder → Lock → Receiver → Receiver
-downlinkWindow f l r =
-    record { mode = modeAfter (l .misses); clock = r .clock; lock = l; slot = handed (r .slot) (r .clock .currentSlot) f; next = r .next; signal = r .signal }
+unfoldable pub downlinkWindow : BurstView → Lock → Receiver → Receiver
+downlinkWindow v l r = handOver (withMode (withLock r l) (modeAfter (l .misses))) (downlinkSlot (r .slot) (r .clock .currentSlot) v)
 
 -- Ul: slot numbers are 2 less, wrapping; a full window and one for each half
 unfoldable pub uplinkSlot : ℕ → Signal → HandedSlot
 uplinkSlot current s =
     record {
-      available = true;
       time = slotOf (pos current -ℤ pos 2);
-      full = checked SlotType.UlFull s 1024 256;
-      subslot1 = checked SlotType.UlSub s 1024 128;
-      subslot2 = checked SlotType.UlSub s 514 128;
+      full = checked SlotType.UlFull (windowBits s);
+      subslot1 = checked SlotType.UlSub (bitsOf s 1024 128);
+      subslot2 = checked SlotType.UlSub (bitsOf s 514 128);
     }
-
-unfoldable pub uplinkWindow : Receiver → Receiver
-uplinkWindow r =
-    record { mode = r .mode; clock = r .clock; lock = r .lock; slot = uplinkSlot (r .clock .currentSlot) (r .signal); next = r .next; signal = r .signal }
 
 unfoldable pub processPastSamples : Mode → Receiver → Receiver
 processPastSamples Idle r = r
-processPastSamples DlUnsynchronized r = searchWindow (leb (findSync (bitsOf (r .signal) 1024 256) .dist) 1) (findSync (bitsOf (r .signal) 1024 256) .pos) r
+processPastSamples DlUnsynchronized r = searchWindow (leb (findSync (windowBits (r .signal)) .dist) mostErrors) (findSync (windowBits (r .signal)) .pos) r
 processPastSamples Dl r =
-    downlinkWindow (checked SlotType.Dl (r .signal) 1024 256)
-    (lockAfter (r .lock) (slotTiming (r .signal)) (typeNumber (checkSlot SlotType.Dl (bitsOf (r .signal) 1024 256) .«train_type»))) r
-processPastSamples Ul r = uplinkWindow r
+    downlinkWindow (checked SlotType.Dl (windowBits (r .signal)))
+    (lockAfter (r .lock) (slotTiming (r .signal)) (checked SlotType.Dl (windowBits (r .signal)) .type)) r
+processPastSamples Ul r = handOver r (uplinkSlot (r .clock .currentSlot) (r .signal))
 
 -- ---- slot timing after a window
 
 unfoldable pub moved : Receiver → ℤ → Float → Receiver
 moved r d e =
-    record {
-      mode = r .mode;
-      clock = record { referenceTime = r .clock .referenceTime +ℤ d; slotReadyTime = r .clock .slotReadyTime; currentSlot = r .clock .currentSlot };
-      lock = record { timingError = e; misses = r .lock .misses };
-      slot = r .slot;
-      next = r .next;
-      signal = r .signal;
-    }
+    withLock
+    (withClock r (record { referenceTime = r .clock .referenceTime +ℤ d; slotReadyTime = r .clock .slotReadyTime; currentSlot = r .clock .currentSlot }))
+    (record { timingError = e; misses = r .lock .misses })
 
 -- an averaged error above 0.5 makes the reference time one sample later, one below −0.5 one sample sooner
 unfoldable pub later : Bool → Receiver → Receiver
@@ -197,9 +224,6 @@ trackedLater r = later (late (r .lock .timingError)) r
 
 unfoldable pub trackedSooner : Receiver → Receiver
 trackedSooner r = sooner (early (r .lock .timingError)) r
-
-unfoldable pub withClock : Receiver → Clock → Receiver
-withClock r c = record { mode = r .mode; clock = c; lock = r .lock; slot = r .slot; next = r .next; signal = r .signal }
 
 -- 400 samples on
 unfoldable pub searchOn : Clock → Clock
@@ -224,7 +248,7 @@ closeWindow r = schedule (processed r .mode) (processed r)
 -- ---- `process_sample`
 
 unfoldable pub listen : Receiver → ComplexSample → Receiver
-listen r x = record { mode = r .mode; clock = r .clock; lock = r .lock; slot = r .slot; next = r .next; signal = hear (r .signal) x }
+listen r x = withSignal r (hear (r .signal) x)
 
 -- the counter less the filter's delay, less the ready time
 unfoldable pub tdiff : Receiver → ℤ → ℤ
@@ -256,3 +280,19 @@ closeIf false r = r
 
 unfoldable pub processSample : Receiver → ComplexSample → ℤ → Receiver
 processSample r x c = closeIf (closes (arrived r x c) c) (arrived r x c)
+
+-- ---- `sample`
+
+-- how many zeros are fed for a missing stretch: at most 1,020
+unfoldable pub missing : ℤ → ℕ
+missing (pos n) = min n 1020
+missing (negsuc n) = 0
+
+-- k zeros, under the counters just before c
+unfoldable pub feedZeros : ℕ → Receiver → ℤ → Receiver
+feedZeros zero r c = r
+feedZeros (suc k) r c = feedZeros k (processSample r silence (c -ℤ pos (suc k))) c
+
+-- an accepted sample
+unfoldable pub accept : Receiver → ComplexSample → ℤ → Receiver
+accept r x c = withNext (processSample (feedZeros (missing (c -ℤ r .next)) r c) x c) (c +ℤ pos 1)

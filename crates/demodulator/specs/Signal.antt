@@ -43,3 +43,10 @@ timingOf s d n = estimateTiming (ago zeroF (s .magnitudes)) d n
 -- the bits of a window of n symbols that starts d samples ago: 2 (n − 1) of them
 unfoldable pub bitsOf : Signal → ℕ → ℕ → List ℕ
 bitsOf s d n = slotBits (ago silence (s .past)) d (wholeOf (timingOf s d n)) (fractOf (timingOf s d n)) n
+
+-- the window of a whole slot: its timing, and its 510 bits
+unfoldable pub slotTiming : Signal → Float
+slotTiming s = timingOf s 1024 256
+
+abbrev pub windowBits : Signal → List ℕ
+windowBits s = bitsOf s 1024 256

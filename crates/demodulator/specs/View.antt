@@ -9,42 +9,38 @@ use lib.Ieee.{Float}
 use Rattle.dsp_types.specs.declared.ComplexSample.{ComplexSample}
 use Rattle.fir.specs.Fir.{lineOf}
 use Rattle.history.specs.History.{heldIn, samplesIn}
-use Rattle.burst_finder.specs.declared.Finding.{Finding}
-use Rattle.burst_finder.specs.declared.TrainingSequence.{TrainingSequence}
-use Rattle.burst_finder.specs.declared.TrainingSequence.the-variants.{NotFound, NormalTrainSeq1, NormalTrainSeq2, ExtendedTrainSeq, SyncTrainSeq}
-use Rattle.burst_finder.specs.Slots.{typeNumber}
+use Rattle.burst_finder.specs.Slots.{getBurst}
 use Rattle.demodulator.specs.declared.Mode.{Mode}
 use Rattle.demodulator.specs.declared.Mode.the-variants.{Idle, DlUnsynchronized, Dl, Ul}
-use Rattle.demodulator.specs.declared.SlotBurstFinder.{SlotBurstFinder}
-use Rattle.demodulator.specs.declared.Demodulator.{Demodulator}
+use Rattle.demodulator.specs.declared.RxBurst.{RxBurst}
 use Rattle.demodulator.specs.declared.State.{State}
+use Rattle.demodulator.specs.declared.Demodulator.{Demodulator}
 use Rattle.demodulator.specs.declared.window.Window.{Window}
 use Rattle.demodulator.specs.Signal.{Signal, timingOf, bitsOf}
-use Rattle.demodulator.specs.Receiver.{Clock, Finder, Receiver}
+use Rattle.demodulator.specs.Receiver.{BurstView, Receiver}
 
 -- the mode of a stored number; any other is an idle receiver's
 unfoldable pub modeOf : ℕ → Mode
 modeOf n = cond (eqb n 1) DlUnsynchronized (cond (eqb n 2) Dl (cond (eqb n 3) Ul Idle))
 
--- the training sequence of a stored number; any other is none
-unfoldable pub trainOf : ℕ → TrainingSequence
-trainOf n =
-    cond (eqb n 1) NormalTrainSeq1 (cond (eqb n 2) NormalTrainSeq2 (cond (eqb n 3) ExtendedTrainSeq (cond (eqb n 4) SyncTrainSeq NotFound)))
+-- the number that is stored for a mode
+unfoldable pub modeNumber : Mode → ℕ
+modeNumber Idle = 0
+modeNumber DlUnsynchronized = 1
+modeNumber Dl = 2
+modeNumber Ul = 3
 
-unfoldable pub finderOf : SlotBurstFinder → Finder
-finderOf f =
-    record {
-      bits = take (f .«bits_len») (f .bits);
-      finding = record { «train_type» = trainOf (f .«train_type»); «train_errs» = f .«train_errs»; «burst_pos» = f .«burst_pos»; «burst_len» = f .«burst_len» };
-    }
+-- the number stored by a receiver that follows one in this mode: that of the mode that it takes
+unfoldable pub modeFollowing : Mode → ℕ → ℕ
+modeFollowing Idle own = own
+modeFollowing DlUnsynchronized own = modeNumber Idle
+modeFollowing Dl own = modeNumber Ul
+modeFollowing Ul own = own
 
--- a finder with these bits and this finding
-pub record Finds (f : SlotBurstFinder) (bits : List ℕ) (found : Finding) : Type 0 where
-  pub finder : finderOf f ≡ record { bits = bits; finding = found }
-  pub number : f .«train_type» ≡ typeNumber (found .«train_type»)
-
-unfoldable pub clockOf : Demodulator → Clock
-clockOf d = record { referenceTime = d .«reference_time» .0; slotReadyTime = d .«slot_ready_time» .0; currentSlot = d .«current_slot» .0 }
+-- the view of a stored burst, in a window of the first n of these bits
+unfoldable pub storedView : ℕ → List ℕ → RxBurst → BurstView
+storedView n bits b =
+    record { type = b .«train_type»; errors = b .«train_errs»; place = b .«burst_pos»; bits = getBurst (take n bits) (b .«burst_pos») (b .«burst_len») }
 
 -- the lists that rings hold, newest first: any stored index counts modulo 2,048
 unfoldable pub signalFrom : List ComplexSample → List Float → List Float → List Float → ℕ → Signal
@@ -55,45 +51,34 @@ signalFrom inputs re im abs index =
       magnitudes = heldIn abs index;
     }
 
-unfoldable pub signalOf : Demodulator → Signal
-signalOf d = signalFrom (lineOf (d .«matched_filter»)) (d .«past_re») (d .«past_im») (d .«past_abs») (d .«past_index»)
-
-unfoldable pub viewOf : Demodulator → Receiver
-viewOf d =
-    record {
-      mode = modeOf (d .mode);
-      clock = clockOf d;
-      lock = record { timingError = d .«averaged_timing_error»; misses = d .«slots_since_last_valid_burst» };
-      slot =
-          record {
-            available = d .«demodulated_slot_available»;
-            time = d .«demodulated_slot_time» .0;
-            full = finderOf (d .«full_slot»);
-            subslot1 = finderOf (d .subslot1);
-            subslot2 = finderOf (d .subslot2);
-          };
-      next = d .«next_input_sample_count» .0;
-      signal = signalOf d;
-    }
-
--- the receiver of a state and of the rings of its past
+-- the receiver of a state and of the rings of its past. A slot's window has 510 bits, that of half a slot 254
 unfoldable pub receiverOf : State → List Float → List Float → List Float → Receiver
 receiverOf s re im abs =
     record {
       mode = modeOf (s .mode);
       clock = record { referenceTime = s .«reference_time» .0; slotReadyTime = s .«slot_ready_time» .0; currentSlot = s .«current_slot» .0 };
       lock = record { timingError = s .«averaged_timing_error»; misses = s .«slots_since_last_valid_burst» };
+      waits = s .«demodulated_slot_available»;
       slot =
           record {
-            available = s .«demodulated_slot_available»;
-            time = s .«demodulated_slot_time» .0;
-            full = finderOf (s .«full_slot»);
-            subslot1 = finderOf (s .subslot1);
-            subslot2 = finderOf (s .subslot2);
+            time = s .«demodulated_slot» .time .0;
+            full = storedView 510 (s .«full_bits») (s .«demodulated_slot» .full);
+            subslot1 = storedView 254 (s .«subslot1_bits») (s .«demodulated_slot» .subslot1);
+            subslot2 = storedView 254 (s .«subslot2_bits») (s .«demodulated_slot» .subslot2);
           };
       next = s .«next_input_sample_count» .0;
       signal = signalFrom (lineOf (s .«matched_filter»)) re im abs (s .«past_index»);
     }
+
+unfoldable pub viewOf : Demodulator → Receiver
+viewOf d = receiverOf (d .state) (d .past .re) (d .past .im) (d .past .abs)
+
+-- a call on a state and the rings of its past left all as it was
+pub record Untouched (before after : State) (re re′ im im′ abs abs′ : List Float) : Type 0 where
+  pub state : after ≡ before
+  pub past-re : re′ ≡ re
+  pub past-im : im′ ≡ im
+  pub past-abs : abs′ ≡ abs
 
 -- the windows that are read: a whole slot's, and those of its two halves
 pub data IsWindow : ℕ → ℕ → Type 0 where

@@ -1,20 +1,19 @@
 -- Which windows a sample closes (01, "The receiver"). Definitions only. Windows stand the last first.
 use Prim.Native.Nat.{ℕ, zero, suc}
-use mathlib.Core.Bool.{Bool, true, false}
+use mathlib.Core.Bool.{Bool, true, false, _||_}
 use mathlib.Core.List.{List, [], _∷_, _++_}
 use lib.IntN.{ℤ, pos, natAbs, _-ℤ_}
 use Rattle.dsp_types.specs.declared.ComplexSample.{ComplexSample}
 use Rattle.dsp_types.specs.Samples.{silence}
 use Rattle.demodulator.specs.declared.Mode.{Mode}
 use Rattle.demodulator.specs.declared.Mode.the-variants.{Idle, DlUnsynchronized, Dl, Ul}
-use Rattle.demodulator.specs.Receiver.{Receiver, processSample, arrived, closes, closeWindow}
-use Rattle.demodulator.specs.Calls.{BurstView, burstView, valid, validCount, sampleRefusal, missing, feedZeros, unless}
+use Rattle.demodulator.specs.Receiver.{HandedSlot, Receiver, processSample, arrived, closes, closeWindow, missing, feedZeros}
 
--- a search window that leaves the receiver searching, one that it locks on, or a slot that is handed over with its number and its
--- full slot's view. (An idle receiver's window is read by nobody: `quiet`.)
+-- a search window that leaves the receiver searching, one that it locks on, or a slot that is handed over. (An idle receiver's window is
+-- read by nobody: `quiet`.)
 pub data Kind : Type 0 where
   quiet lock : Kind
-  slot : ℕ → BurstView → Kind
+  slot : HandedSlot → Kind
 
 pub record Window : Type 0 where
   pub counter : ℕ
@@ -31,8 +30,8 @@ searchKind Ul = quiet
 unfoldable pub kindOf : Mode → Receiver → Kind
 kindOf Idle r = quiet
 kindOf DlUnsynchronized r = searchKind (r .mode)
-kindOf Dl r = slot (r .slot .time) (burstView 510 (r .slot .full))
-kindOf Ul r = slot (r .slot .time) (burstView 510 (r .slot .full))
+kindOf Dl r = slot (r .slot)
+kindOf Ul r = slot (r .slot)
 
 unfoldable pub windowIf : Bool → Receiver → ℤ → List Window
 windowIf true r c = record { counter = natAbs c; kind = kindOf (r .mode) (closeWindow r) } ∷ []
@@ -50,6 +49,12 @@ zerosWindows (suc k) r c = zerosWindows k (processSample r silence (c -ℤ pos (
 unfoldable pub acceptWindows : Receiver → ComplexSample → ℤ → List Window
 acceptWindows r x c = windowOf (feedZeros (missing (c -ℤ r .next)) r c) x c ++ zerosWindows (missing (c -ℤ r .next)) r c
 
--- the windows that a sample closes: a refused one none
-unfoldable pub sampleWindows : Receiver → ComplexSample → ℤ → List Window
-sampleWindows r x c = unless (sampleRefusal (validCount (r .next)) x c) (acceptWindows (valid r) x c) []
+unfoldable pub isSlot : Kind → Bool
+isSlot quiet = false
+isSlot lock = false
+isSlot (slot h) = true
+
+-- whether one of the windows hands a slot over
+unfoldable pub handsOver : List Window → Bool
+handsOver [] = false
+handsOver (w ∷ ws) = isSlot (w .kind) || handsOver ws

@@ -1,6 +1,8 @@
 // A block of samples in one call.
 use crate::Demodulator;
 use crate::State;
+use crate::process::FAR_READY;
+use crate::process::FAR_REFERENCE;
 use crate::process::is_beyond;
 use crate::process::sample_refusal;
 use crate::process::valid_count;
@@ -9,21 +11,23 @@ use crate::sums::is_below;
 use crate::sums::is_same;
 use crate::sums::minus;
 use crate::sums::plus;
+use dsp_types::ACCEPTED;
 use dsp_types::ComplexSample;
 use dsp_types::SampleCount;
 use dsp_types::least;
+use history::History;
 ghost use mathlib.Core.Path.{_≡_};
 ghost use mathlib.Core.Bool.{false};
 ghost use mathlib.Core.List.{_++_};
 ghost use Prim.Native.Nat.{_+_, _*_, _/_, _<_, _≤_};
 ghost use lib.ListN.{length, drop};
-ghost use Rattle.demodulator.specs.Calls.{accept};
-ghost use Rattle.demodulator.specs.Windows.{acceptWindows};
-ghost use Rattle.demodulator.specs.Feed.{interleaved, handsOver, feedOf};
+ghost use Rattle.demodulator.specs.Feed.{interleaved, feedOf};
 ghost use Rattle.fir.specs.Fir.{samplesOf};
 ghost use Rattle.demodulator.specs.Quiet.{keepAll, anyBeyond, firstOf, Quiet};
-ghost use Rattle.demodulator.specs.View.{receiverOf, viewOf};
-ghost use Rattle.demodulator.specs.Bounds.{Accepts};
+ghost use Rattle.demodulator.specs.View.{receiverOf, viewOf, Untouched};
+
+// So many samples are filtered at once: their rows fit the first level of cache.
+const PIECE: usize = 512;
 
 // Why no more samples were taken: there were no more, a slot was handed over, or the next one is refused.
 pub enum Stop {
@@ -38,8 +42,9 @@ pub struct Fed {
     pub receiver: Demodulator,
 }
 
-struct Heard {
-    pub handed: bool,
+pub struct StateFed {
+    pub taken: usize,
+    pub stop: Stop,
     pub state: State,
 }
 
@@ -48,8 +53,8 @@ struct Heard {
 fn quiet_from(reference: i64, ready: i64, slot: u32, misses: u32, next: i64, counter: i64) -> usize
     ensures { λ r. ⌜ (0 < r → Quiet (record { referenceTime = reference; slotReadyTime = ready; currentSlot = slot }) misses next counter r) ⌝ }
 {
-    let reference_stands = is_same(valid_time(reference, 549_755_813_888), reference);
-    let ready_stands = is_same(valid_time(ready, 1_099_511_627_775), ready);
+    let reference_stands = is_same(valid_time(reference, FAR_REFERENCE), reference);
+    let ready_stands = is_same(valid_time(ready, FAR_READY), ready);
     let follows = is_same(next, counter);
     if !(reference_stands & ready_stands & follows & (slot < 283_115_520) & (misses <= 100)) {
         return 0;
@@ -66,13 +71,13 @@ fn quiet_from(reference: i64, ready: i64, slot: u32, misses: u32, next: i64, cou
 
 // Writes the parts of samples from the one numbered `at` on, at most so many, up to one that is too large. Returns how many.
 fn parts_of(samples: &[f32], at: usize, most: usize, re: &mut [f32], im: &mut [f32]) -> usize
-    requires { ⌜ (at ≤ length (now samples) / 2) × (length (now re) ≡ 1024) × (length (now im) ≡ 1024) ⌝ }
-    ensures few { λ r. ⌜ (r ≤ most) × (r ≤ 1024) × (at + r ≤ length (now (samples .entry)) / 2) ⌝ }
+    requires { ⌜ (at ≤ length (now samples) / 2) × (length (now re) ≡ 512) × (length (now im) ≡ 512) ⌝ }
+    ensures few { λ r. ⌜ (r ≤ most) × (r ≤ 512) × (at + r ≤ length (now (samples .entry)) / 2) ⌝ }
     ensures fine { λ r. ⌜ anyBeyond (firstOf r (now (re .exit)) (now (im .exit))) ≡ false ⌝ }
     ensures same { λ r. ⌜ interleaved (drop (2 * at) (now (samples .entry))) ≡ firstOf r (now (re .exit)) (now (im .exit)) ++ interleaved (drop (2 * (at + r)) (now (samples .entry))) ⌝ }
-    ensures long { λ r. ⌜ (length (now (re .exit)) ≡ 1024) × (length (now (im .exit)) ≡ 1024) ⌝ }
+    ensures long { λ r. ⌜ (length (now (re .exit)) ≡ 512) × (length (now (im .exit)) ≡ 512) ⌝ }
 {
-    let room = least(least(most, 1024), samples.len() / 2 - at);
+    let room = least(least(most, PIECE), samples.len() / 2 - at);
     let mut len: usize = 0;
     while len < room {
         let x = samples[2 * (at + len)];
@@ -88,7 +93,7 @@ fn parts_of(samples: &[f32], at: usize, most: usize, re: &mut [f32], im: &mut [f
 }
 
 impl State {
-    fn quiet_samples(self, counter: i64) -> usize
+    pub(crate) fn quiet_samples(self, counter: i64) -> usize
         ensures { λ r. ⌜ (0 < r → Quiet (record { referenceTime = self .«reference_time» .0; slotReadyTime = self .«slot_ready_time» .0; currentSlot = self .«current_slot» .0 }) (self .«slots_since_last_valid_burst») (self .«next_input_sample_count» .0) counter r) ⌝ }
     {
         quiet_from(
@@ -111,15 +116,15 @@ impl State {
         y: &[f32],
         next: i64,
     ) -> State
-        requires { ⌜ (length (now x) ≡ length (now y)) × (length (now x) ≤ 1024) ⌝ }
+        requires { ⌜ (length (now x) ≡ length (now y)) × (length (now x) ≤ 512) ⌝ }
         ensures { λ r. ⌜ receiverOf r (now (re .exit)) (now (im .exit)) (now (abs .exit)) ≡ keepAll (receiverOf self (now (re .entry)) (now (im .entry)) (now (abs .entry))) (samplesOf (now (x .entry)) (now (y .entry))) next ⌝ }
     {
         let n = x.len();
-        let mut out_re = [0.0f32; 1024];
-        let mut out_im = [0.0f32; 1024];
+        let mut out_re = [0.0f32; PIECE];
+        let mut out_im = [0.0f32; PIECE];
         let line = self.matched_filter;
         let next_line = line.block(x, y, &mut out_re, &mut out_im);
-        let mut sizes = [0.0f32; 1024];
+        let mut sizes = [0.0f32; PIECE];
         magnitude::magnitudes(&out_re[..n], &out_im[..n], &mut sizes);
         let at = self.past_index;
         let count = SampleCount(next);
@@ -133,67 +138,31 @@ impl State {
         d
     }
 
-    // A sample that is not refused, and whether it handed a slot over: that alone makes one wait where none did.
-    fn hear(
+    // Takes samples, re and im in turn, with the counters from first on: up to one that hands a slot over, or to one
+    // that is refused, which is not taken. Where none is taken, state and past stay as they are.
+    pub fn feed(
         self,
         re: &mut [f32; 2048],
         im: &mut [f32; 2048],
         abs: &mut [f32; 2048],
-        input: ComplexSample,
-        counter: i64,
-    ) -> Heard
-        requires { ⌜ Accepts (receiverOf self (now re) (now im) (now abs)) counter ⌝ }
-        ensures handed { λ r. ⌜ r .handed ≡ handsOver (acceptWindows (receiverOf self (now (re .entry)) (now (im .entry)) (now (abs .entry))) input counter) ⌝ }
-        ensures state { λ r. ⌜ receiverOf (r .state) (now (re .exit)) (now (im .exit)) (now (abs .exit)) ≡ accept (receiverOf self (now (re .entry)) (now (im .entry)) (now (abs .entry))) input counter ⌝ }
+        samples: &[f32],
+        first: SampleCount,
+    ) -> StateFed
+        ensures taken { λ r. ⌜ r .taken ≡ feedOf (receiverOf self (now (re .entry)) (now (im .entry)) (now (abs .entry))) (interleaved (now (samples .entry))) (first .0) .taken ⌝ }
+        ensures stop { λ r. ⌜ r .stop ≡ feedOf (receiverOf self (now (re .entry)) (now (im .entry)) (now (abs .entry))) (interleaved (now (samples .entry))) (first .0) .stop ⌝ }
+        ensures receiver { λ r. ⌜ receiverOf (r .state) (now (re .exit)) (now (im .exit)) (now (abs .exit)) ≡ feedOf (receiverOf self (now (re .entry)) (now (im .entry)) (now (abs .entry))) (interleaved (now (samples .entry))) (first .0) .receiver ⌝ }
+        ensures refused { λ r. ⌜ (r .taken ≡ 0 → Untouched self (r .state) (now (re .entry)) (now (re .exit)) (now (im .entry)) (now (im .exit)) (now (abs .entry)) (now (abs .exit))) ⌝ }
     {
-        let waiting = self.demodulated_slot_available;
-        let mut before = self;
-        before.demodulated_slot_available = false;
-        let mut d = before.accept(re, im, abs, input, counter);
-        let handed = d.demodulated_slot_available;
-        d.demodulated_slot_available = waiting | handed;
-        Heard { handed, state: d }
-    }
-
-    fn fed(
-        self,
-        re: [f32; 2048],
-        im: [f32; 2048],
-        abs: [f32; 2048],
-        taken: usize,
-        stop: Stop,
-    ) -> Fed
-        ensures { λ r. ⌜ (r .taken ≡ taken) × (r .stop ≡ stop) × (viewOf (r .receiver) ≡ receiverOf self re im abs) ⌝ }
-    {
-        Fed {
-            taken,
-            stop,
-            receiver: self.with_past(re, im, abs),
-        }
-    }
-}
-
-impl Demodulator {
-    // Takes samples, re and im in turn, with the counters from first on: up to one that hands a slot over, or to one
-    // that is refused, which is not taken.
-    pub fn feed(self, samples: &[f32], first: SampleCount) -> Fed
-        ensures taken { λ r. ⌜ r .taken ≡ feedOf (viewOf self) (interleaved (now (samples .entry))) (first .0) .taken ⌝ }
-        ensures stop { λ r. ⌜ r .stop ≡ feedOf (viewOf self) (interleaved (now (samples .entry))) (first .0) .stop ⌝ }
-        ensures receiver { λ r. ⌜ viewOf (r .receiver) ≡ feedOf (viewOf self) (interleaved (now (samples .entry))) (first .0) .receiver ⌝ }
-    {
-        let mut s = self.state();
-        let mut re = self.past_re;
-        let mut im = self.past_im;
-        let mut abs = self.past_abs;
-        let mut x = [0.0f32; 1024];
-        let mut y = [0.0f32; 1024];
+        let mut s = self;
+        let mut x = [0.0f32; PIECE];
+        let mut y = [0.0f32; PIECE];
         let mut counter = first.0;
         let mut taken: usize = 0;
         while taken < samples.len() / 2 {
             let len = parts_of(samples, taken, s.quiet_samples(counter), &mut x, &mut y);
             if 0 < len {
                 counter = plus(counter, len as i64);
-                s = s.keep_all(&mut re, &mut im, &mut abs, &x[..len], &y[..len], counter);
+                s = s.keep_all(re, im, abs, &x[..len], &y[..len], counter);
                 taken = taken + len;
             } else {
                 let input = ComplexSample {
@@ -202,18 +171,58 @@ impl Demodulator {
                 };
                 let next = valid_count(s.next_input_sample_count.0);
                 let refusal = sample_refusal(next, input, counter);
-                if refusal != 0 {
-                    return s.fed(re, im, abs, taken, Stop::Refused(refusal));
+                if refusal != ACCEPTED {
+                    return StateFed {
+                        taken,
+                        stop: Stop::Refused(refusal),
+                        state: s,
+                    };
                 }
-                let heard = s.valid().hear(&mut re, &mut im, &mut abs, input, counter);
+                let heard = s.valid().accept(re, im, abs, input, counter);
                 s = heard.state;
                 counter = plus(counter, 1);
                 taken = taken + 1;
                 if heard.handed {
-                    return s.fed(re, im, abs, taken, Stop::Slot);
+                    return StateFed {
+                        taken,
+                        stop: Stop::Slot,
+                        state: s,
+                    };
                 }
             }
         }
-        s.fed(re, im, abs, taken, Stop::End)
+        StateFed {
+            taken,
+            stop: Stop::End,
+            state: s,
+        }
+    }
+}
+
+impl Demodulator {
+    // Takes samples, re and im in turn, with the counters from first on: up to one that hands a slot over, or to one
+    // that is refused, which is not taken. Where none is taken, the receiver stays as it is.
+    pub fn feed(self, samples: &[f32], first: SampleCount) -> Fed
+        ensures taken { λ r. ⌜ r .taken ≡ feedOf (viewOf self) (interleaved (now (samples .entry))) (first .0) .taken ⌝ }
+        ensures stop { λ r. ⌜ r .stop ≡ feedOf (viewOf self) (interleaved (now (samples .entry))) (first .0) .stop ⌝ }
+        ensures receiver { λ r. ⌜ viewOf (r .receiver) ≡ feedOf (viewOf self) (interleaved (now (samples .entry))) (first .0) .receiver ⌝ }
+        ensures refused { λ r. ⌜ (r .taken ≡ 0 → r .receiver ≡ self) ⌝ }
+    {
+        let state = self.state;
+        let past = self.past;
+        let mut re = past.re;
+        let mut im = past.im;
+        let mut abs = past.abs;
+        let fed = state.feed(&mut re, &mut im, &mut abs, samples, first);
+        let stop = fed.stop;
+        let next = fed.state;
+        Fed {
+            taken: fed.taken,
+            stop,
+            receiver: Demodulator {
+                state: next,
+                past: History { re, im, abs },
+            },
+        }
     }
 }

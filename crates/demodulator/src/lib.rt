@@ -4,7 +4,6 @@ mod feed;
 mod follow;
 mod listen;
 mod new;
-mod past;
 mod process;
 mod sums;
 mod take;
@@ -13,14 +12,16 @@ mod window;
 use dsp_types::SampleCount;
 use dsp_types::TdmaTime;
 pub use feed::Fed;
+pub use feed::StateFed;
 pub use feed::Stop;
 use fir::FirComplexSym;
-pub use follow::Followed;
+use history::History;
 pub use process::Answer;
-pub use process::Sampled;
+pub use process::Answered;
+pub use process::StateAnswered;
+pub use take::StateTaken;
 pub use take::TakeAnswer;
 pub use take::Taken;
-pub use take::TakenView;
 
 pub enum Mode {
     // Do nothing: an uplink receiver whose downlink receiver is unsynchronized.
@@ -33,21 +34,29 @@ pub enum Mode {
     Ul,
 }
 
-// A window's bits, of which there are bits_len, and the burst found in them, its training sequence as 01's number.
+// A burst found in a window: its training sequence as 01's number and that one's wrong bits, its place in the window's
+// bits and its length.
 #[repr(C)]
-pub struct SlotBurstFinder {
-    pub bits: [u8; 510],
-    pub bits_len: usize,
+pub struct RxBurst {
     pub train_type: u8,
     pub train_errs: usize,
     pub burst_pos: usize,
     pub burst_len: usize,
 }
 
-// The state is flat and goes by value. Modes and training sequences are numbers, so
-// that C can hold one. A stored number that no call could have left counts as a valid one.
+// A slot that was handed over (rxtx_dev.rs `RxSlotBits`): its number, and the bursts in it and in its halves.
 #[repr(C)]
-pub struct Demodulator {
+pub struct RxSlot {
+    pub time: TdmaTime,
+    pub full: RxBurst,
+    pub subslot1: RxBurst,
+    pub subslot2: RxBurst,
+}
+
+// All of a receiver but its past: it goes by value. Modes and training sequences are numbers, so that C can hold one. A
+// stored number that no call could have left counts as a valid one.
+#[repr(C)]
+pub struct State {
     // 0 Idle, 1 DlUnsynchronized, 2 Dl, 3 Ul.
     pub mode: u8,
     // Sample counter at the beginning of hyperframe number 0.
@@ -59,34 +68,20 @@ pub struct Demodulator {
     // Tracks slot timing in the downlink.
     pub averaged_timing_error: f32,
     pub slots_since_last_valid_burst: u32,
-    // The slot demodulated last.
-    pub demodulated_slot_time: TdmaTime,
+    // The slot demodulated last, whether it waits to be taken, and its windows' bits: 510, and 254 of each half.
     pub demodulated_slot_available: bool,
-    pub full_slot: SlotBurstFinder,
-    pub subslot1: SlotBurstFinder,
-    pub subslot2: SlotBurstFinder,
+    pub demodulated_slot: RxSlot,
+    pub full_bits: [u8; 510],
+    pub subslot1_bits: [u8; 510],
+    pub subslot2_bits: [u8; 510],
     pub matched_filter: FirComplexSym,
-    // The past: rings of filtered samples and of their magnitudes, the newest at past_index.
-    pub past_re: [f32; 2048],
-    pub past_im: [f32; 2048],
-    pub past_abs: [f32; 2048],
+    // Where the newest sample stands in the rings of the past.
     pub past_index: usize,
 }
 
-// All of the state but the past.
-struct State {
-    pub mode: u8,
-    pub reference_time: SampleCount,
-    pub slot_ready_time: SampleCount,
-    pub current_slot: TdmaTime,
-    pub next_input_sample_count: SampleCount,
-    pub averaged_timing_error: f32,
-    pub slots_since_last_valid_burst: u32,
-    pub demodulated_slot_time: TdmaTime,
-    pub demodulated_slot_available: bool,
-    pub full_slot: SlotBurstFinder,
-    pub subslot1: SlotBurstFinder,
-    pub subslot2: SlotBurstFinder,
-    pub matched_filter: FirComplexSym,
-    pub past_index: usize,
+// The receiver by value: the reference. The calls on a state with its past lent are the same without the copies.
+#[repr(C)]
+pub struct Demodulator {
+    pub state: State,
+    pub past: History,
 }

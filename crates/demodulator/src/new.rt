@@ -1,18 +1,24 @@
 // A new receiver.
 use crate::Demodulator;
 use crate::Mode;
-use crate::SlotBurstFinder;
+use crate::RxBurst;
+use crate::RxSlot;
+use crate::State;
 use crate::clock::ready_time;
 use dsp_types::SampleCount;
 use dsp_types::TdmaTime;
 use fir::FirComplexSym;
+use history::History;
 ghost use mathlib.Core.Path.{_≡_};
-ghost use Rattle.demodulator.specs.Receiver.{noFinder, new};
-ghost use Rattle.demodulator.specs.View.{modeOf, finderOf, viewOf};
+ghost use lib.ListN.{replicate};
+ghost use Rattle.dsp_types.specs.Samples.{zeroF};
+ghost use Rattle.demodulator.specs.Receiver.{noView, new};
+ghost use Rattle.demodulator.specs.Calls.{burstShown};
+ghost use Rattle.demodulator.specs.View.{modeNumber, receiverOf, viewOf};
 
 // The number that a receiver stores for its mode.
 fn number(mode: Mode) -> u8
-    ensures { λ r. ⌜ modeOf r ≡ mode ⌝ }
+    ensures { λ r. ⌜ r ≡ modeNumber mode ⌝ }
 {
     match mode {
         Mode::Idle => 0,
@@ -22,13 +28,11 @@ fn number(mode: Mode) -> u8
     }
 }
 
-// No bits, and no burst in them.
-fn no_burst() -> SlotBurstFinder
-    ensures { λ r. ⌜ finderOf r ≡ noFinder ⌝ }
+// No burst.
+pub(crate) fn no_burst() -> RxBurst
+    ensures { λ r. ⌜ r ≡ burstShown noView ⌝ }
 {
-    SlotBurstFinder {
-        bits: [0; 510],
-        bits_len: 0,
+    RxBurst {
         train_type: 0,
         train_errs: 100,
         burst_pos: 0,
@@ -36,15 +40,23 @@ fn no_burst() -> SlotBurstFinder
     }
 }
 
-impl Demodulator {
-    pub fn new(initial_mode: Mode) -> Demodulator
-        ensures { λ r. ⌜ viewOf r ≡ new «initial_mode» ⌝ }
+impl State {
+    // Its past is all zeros.
+    pub fn new(initial_mode: Mode) -> State
+        ensures receiver { λ r. ⌜ receiverOf r (replicate 2048 zeroF) (replicate 2048 zeroF) (replicate 2048 zeroF) ≡ new «initial_mode» ⌝ }
+        ensures mode { λ r. ⌜ r .mode ≡ modeNumber «initial_mode» ⌝ }
     {
         let mode = number(initial_mode);
         let empty = no_burst();
         let line = FirComplexSym::new();
         let ready = SampleCount(ready_time(mode, 0, 0));
-        Demodulator {
+        let slot = RxSlot {
+            time: TdmaTime(0),
+            full: empty,
+            subslot1: empty,
+            subslot2: empty,
+        };
+        State {
             mode,
             reference_time: SampleCount(0),
             // The ready time is that of slot 0.
@@ -53,16 +65,24 @@ impl Demodulator {
             next_input_sample_count: SampleCount(0),
             averaged_timing_error: 0.0,
             slots_since_last_valid_burst: 0,
-            demodulated_slot_time: TdmaTime(0),
             demodulated_slot_available: false,
-            full_slot: empty,
-            subslot1: empty,
-            subslot2: empty,
+            demodulated_slot: slot,
+            full_bits: [0; 510],
+            subslot1_bits: [0; 510],
+            subslot2_bits: [0; 510],
             matched_filter: line,
-            past_re: [0.0; 2048],
-            past_im: [0.0; 2048],
-            past_abs: [0.0; 2048],
             past_index: 0,
         }
+    }
+}
+
+impl Demodulator {
+    pub fn new(initial_mode: Mode) -> Demodulator
+        ensures receiver { λ r. ⌜ viewOf r ≡ new «initial_mode» ⌝ }
+        ensures mode { λ r. ⌜ r .state .mode ≡ modeNumber «initial_mode» ⌝ }
+    {
+        let state = State::new(initial_mode);
+        let past = History::new();
+        Demodulator { state, past }
     }
 }

@@ -6,31 +6,59 @@ use crate::sums::is_below;
 use crate::sums::is_same;
 use crate::sums::minus;
 use crate::sums::plus;
+use crate::window::Heard;
+use dsp_types::ACCEPTED;
+use dsp_types::BAD_COUNTER;
+use dsp_types::BAD_SAMPLE;
 use dsp_types::ComplexSample;
+use dsp_types::LAST_COUNTER;
+use dsp_types::PAST_COUNTER;
 use dsp_types::SampleCount;
 use dsp_types::TdmaTime;
+use history::History;
 ghost use mathlib.Core.Path.{_≡_};
 ghost use mathlib.Core.Bool.{false};
 ghost use mathlib.Core.List.{List};
-ghost use Prim.Native.Nat.{_≤_, _<_, _^_, min};
+ghost use Prim.Native.Nat.{ℕ, _^_, min};
 ghost use lib.IntN.{_-ℤ_};
 ghost use lib.Signed.{ltZ};
 ghost use lib.Ieee.{Float};
-ghost use Rattle.dsp_types.specs.Ints.{up};
 ghost use Rattle.dsp_types.specs.Refusals.{beyond};
-ghost use Rattle.demodulator.specs.Receiver.{closes, closeIf, processSample};
-ghost use Rattle.demodulator.specs.Calls.{answerNumber, sampleRefusal, missing, validTime, validCount, valid, feedZeros, accept, sampleOf};
-ghost use Rattle.demodulator.specs.View.{receiverOf, viewOf};
-ghost use Rattle.demodulator.specs.Bounds.{Within, Timed, Counter, Accepts};
+ghost use Rattle.demodulator.specs.Receiver.{closes, closeIf, processSample, missing, accept};
+ghost use Rattle.demodulator.specs.Windows.{handsOver, windowIf, windowOf, acceptWindows};
+ghost use Rattle.demodulator.specs.Valid.{validTime, validCount, valid};
+ghost use Rattle.demodulator.specs.Calls.{sampleRefusal, sampleOutcome, replyOf};
+ghost use Rattle.demodulator.specs.View.{receiverOf, viewOf, Untouched};
+ghost use Rattle.demodulator.specs.Bounds.{Within, Timed, Counter, Accepts, Catching, Caught};
+
+// How far from 0 a stored reference time and ready time may be, and the last counter that may be expected: any other number
+// counts as 0.
+pub(crate) const FAR_REFERENCE: u64 = 549_755_813_888;
+
+pub(crate) const FAR_READY: u64 = 1_099_511_627_775;
+
+const LAST_NEXT: i64 = 137_438_953_472;
 
 pub enum Answer {
     Accepted,
     Refused(u32),
 }
 
-pub struct Sampled {
+pub struct Answered {
     pub answer: Answer,
     pub receiver: Demodulator,
+}
+
+pub struct StateAnswered {
+    pub answer: Answer,
+    pub state: State,
+}
+
+// The state after zeros for missing samples, and how many are left.
+struct Zeros {
+    pub state: State,
+    pub handed: bool,
+    pub left: usize,
 }
 
 // NaN is neither at least −1,024 nor at most 1,024.
@@ -45,15 +73,15 @@ pub(crate) fn sample_refusal(next: i64, input: ComplexSample, counter: i64) -> u
     ensures { λ r. ⌜ r ≡ sampleRefusal next input counter ⌝ }
 {
     if is_beyond(input.re) | is_beyond(input.im) {
-        return 1;
+        return BAD_SAMPLE;
     }
-    if is_below(counter, 0) | is_below(137_438_953_471, counter) {
-        return 2;
+    if is_below(counter, 0) | is_below(LAST_COUNTER, counter) {
+        return BAD_COUNTER;
     }
     if is_below(counter, next) {
-        return 10;
+        return PAST_COUNTER;
     }
-    0
+    ACCEPTED
 }
 
 // How many zeros stand in for the samples missing before the counter: at most a slot's.
@@ -74,7 +102,7 @@ pub(crate) fn valid_time(t: i64, most: u64) -> i64
 pub(crate) fn valid_count(n: i64) -> i64
     ensures { λ r. ⌜ r ≡ validCount n ⌝ }
 {
-    if is_below(n, 0) | is_below(137_438_953_472, n) {
+    if is_below(n, 0) | is_below(LAST_NEXT, n) {
         0
     } else {
         n
@@ -94,14 +122,18 @@ impl State {
         im: &'a [f32; 2048],
         abs: &'a [f32; 2048],
         counter: i64,
-    ) -> State
+    ) -> Heard
         requires { ⌜ Timed 2000 (receiverOf self (now re) (now im) (now abs)) × Counter counter ⌝ }
-        ensures { λ r. ⌜ receiverOf r (now (re .entry)) (now (im .entry)) (now (abs .entry)) ≡ closeIf (closes (receiverOf self (now (re .entry)) (now (im .entry)) (now (abs .entry))) counter) (receiverOf self (now (re .entry)) (now (im .entry)) (now (abs .entry))) ⌝ }
+        ensures handed { λ r. ⌜ r .handed ≡ handsOver (windowIf (closes (receiverOf self (now (re .entry)) (now (im .entry)) (now (abs .entry))) counter) (receiverOf self (now (re .entry)) (now (im .entry)) (now (abs .entry))) counter) ⌝ }
+        ensures state { λ r. ⌜ receiverOf (r .state) (now (re .entry)) (now (im .entry)) (now (abs .entry)) ≡ closeIf (closes (receiverOf self (now (re .entry)) (now (im .entry)) (now (abs .entry))) counter) (receiverOf self (now (re .entry)) (now (im .entry)) (now (abs .entry))) ⌝ }
     {
         if is_same(minus(counter, 16), self.slot_ready_time.0) {
             return self.close_window(re, im, abs);
         }
-        self
+        Heard {
+            state: self,
+            handed: false,
+        }
     }
 
     pub(crate) fn process_sample(
@@ -111,9 +143,10 @@ impl State {
         abs: &mut [f32; 2048],
         input: ComplexSample,
         counter: i64,
-    ) -> State
+    ) -> Heard
         requires { ⌜ Timed 2000 (receiverOf self (now re) (now im) (now abs)) × Counter counter ⌝ }
-        ensures { λ r. ⌜ receiverOf r (now (re .exit)) (now (im .exit)) (now (abs .exit)) ≡ processSample (receiverOf self (now (re .entry)) (now (im .entry)) (now (abs .entry))) input counter ⌝ }
+        ensures handed { λ r. ⌜ r .handed ≡ handsOver (windowOf (receiverOf self (now (re .entry)) (now (im .entry)) (now (abs .entry))) input counter) ⌝ }
+        ensures state { λ r. ⌜ receiverOf (r .state) (now (re .exit)) (now (im .exit)) (now (abs .exit)) ≡ processSample (receiverOf self (now (re .entry)) (now (im .entry)) (now (abs .entry))) input counter ⌝ }
     {
         let t = tdiff(counter, self.slot_ready_time.0);
         self.listen(re, im, abs, input)
@@ -121,7 +154,7 @@ impl State {
             .close_if_ready(re, im, abs, counter)
     }
 
-    // So many zeros, under the counters just before this one.
+    // So many zeros, under the counters just before this one, up to one that hands a slot over.
     fn process_zeros(
         self,
         re: &mut [f32; 2048],
@@ -129,31 +162,38 @@ impl State {
         abs: &mut [f32; 2048],
         count: usize,
         counter: i64,
-    ) -> State
-        requires { ⌜ Timed 1 (receiverOf self (now re) (now im) (now abs)) × Counter counter × (count ≤ 1020) × (count ≤ up counter) ⌝ }
-        ensures { λ r. ⌜ receiverOf r (now (re .exit)) (now (im .exit)) (now (abs .exit)) ≡ feedZeros count (receiverOf self (now (re .entry)) (now (im .entry)) (now (abs .entry))) counter ⌝ }
+    ) -> Zeros
+        requires { ⌜ Catching count (receiverOf self (now re) (now im) (now abs)) counter ⌝ }
+        ensures { λ r. ⌜ Caught count (receiverOf self (now (re .entry)) (now (im .entry)) (now (abs .entry))) counter (r .left) (r .handed) (receiverOf (r .state) (now (re .exit)) (now (im .exit)) (now (abs .exit))) ⌝ }
     {
         let mut d = self;
         let mut left = count;
         while 0 < left {
-            d = d.process_sample(
-                re,
-                im,
-                abs,
-                ComplexSample { re: 0.0, im: 0.0 },
-                minus(counter, left as i64),
-            );
+            let zero = ComplexSample { re: 0.0, im: 0.0 };
+            let heard = d.process_sample(re, im, abs, zero, minus(counter, left as i64));
+            d = heard.state;
             left = left - 1;
+            if heard.handed {
+                return Zeros {
+                    state: d,
+                    handed: true,
+                    left,
+                };
+            }
         }
-        d
+        Zeros {
+            state: d,
+            handed: false,
+            left,
+        }
     }
 
     // A stored number that no call could have left counts as a valid one.
     pub(crate) fn valid(self) -> State
         ensures { λ r. ⌜ ((re im abs : List Float) → receiverOf r re im abs ≡ valid (receiverOf self re im abs)) ⌝ }
     {
-        let reference = SampleCount(valid_time(self.reference_time.0, 549_755_813_888));
-        let ready = SampleCount(valid_time(self.slot_ready_time.0, 1_099_511_627_775));
+        let reference = SampleCount(valid_time(self.reference_time.0, FAR_REFERENCE));
+        let ready = SampleCount(valid_time(self.slot_ready_time.0, FAR_READY));
         let next = SampleCount(valid_count(self.next_input_sample_count.0));
         let slot = TdmaTime(self.current_slot.to_int());
         let misses = at_most_100(self.slots_since_last_valid_burst);
@@ -166,7 +206,7 @@ impl State {
         d
     }
 
-    // A sample that is not refused.
+    // A sample that is not refused, and whether it or a zero before it handed a slot over.
     pub(crate) fn accept(
         self,
         re: &mut [f32; 2048],
@@ -174,41 +214,92 @@ impl State {
         abs: &mut [f32; 2048],
         input: ComplexSample,
         counter: i64,
-    ) -> State
+    ) -> Heard
         requires { ⌜ Accepts (receiverOf self (now re) (now im) (now abs)) counter ⌝ }
-        ensures { λ r. ⌜ receiverOf r (now (re .exit)) (now (im .exit)) (now (abs .exit)) ≡ accept (receiverOf self (now (re .entry)) (now (im .entry)) (now (abs .entry))) input counter ⌝ }
+        ensures handed { λ r. ⌜ r .handed ≡ handsOver (acceptWindows (receiverOf self (now (re .entry)) (now (im .entry)) (now (abs .entry))) input counter) ⌝ }
+        ensures state { λ r. ⌜ receiverOf (r .state) (now (re .exit)) (now (im .exit)) (now (abs .exit)) ≡ accept (receiverOf self (now (re .entry)) (now (im .entry)) (now (abs .entry))) input counter ⌝ }
     {
-        let zeros = missing_samples(self.next_input_sample_count.0, counter);
+        let mut left = missing_samples(self.next_input_sample_count.0, counter);
         let next = SampleCount(plus(counter, 1));
-        let mut d = self.process_zeros(re, im, abs, zeros, counter)
-            .process_sample(re, im, abs, input, counter);
-        d.next_input_sample_count = next;
-        d
+        let mut d = self;
+        let mut handed = false;
+        while 0 < left {
+            let zeros = d.process_zeros(re, im, abs, left, counter);
+            d = zeros.state;
+            left = zeros.left;
+            handed = handed | zeros.handed;
+        }
+        let heard = d.process_sample(re, im, abs, input, counter);
+        let mut last = heard.state;
+        last.next_input_sample_count = next;
+        Heard {
+            state: last,
+            handed: handed | heard.handed,
+        }
+    }
+
+    // Takes one sample, or refuses it and leaves state and past as they are.
+    pub fn sample(
+        self,
+        re: &mut [f32; 2048],
+        im: &mut [f32; 2048],
+        abs: &mut [f32; 2048],
+        input: ComplexSample,
+        sample_counter: SampleCount,
+    ) -> StateAnswered
+        ensures answer { λ r. ⌜ replyOf (r .answer) ≡ sampleOutcome (receiverOf self (now (re .entry)) (now (im .entry)) (now (abs .entry))) input («sample_counter» .0) .reply ⌝ }
+        ensures receiver { λ r. ⌜ receiverOf (r .state) (now (re .exit)) (now (im .exit)) (now (abs .exit)) ≡ sampleOutcome (receiverOf self (now (re .entry)) (now (im .entry)) (now (abs .entry))) input («sample_counter» .0) .receiver ⌝ }
+        ensures refused { λ r. ⌜ ((n : ℕ) → r .answer ≡ Answer.Refused n → Untouched self (r .state) (now (re .entry)) (now (re .exit)) (now (im .entry)) (now (im .exit)) (now (abs .entry)) (now (abs .exit))) ⌝ }
+    {
+        let counter = sample_counter.0;
+        let next = valid_count(self.next_input_sample_count.0);
+        let refusal = sample_refusal(next, input, counter);
+        if refusal != ACCEPTED {
+            return StateAnswered {
+                answer: Answer::Refused(refusal),
+                state: self,
+            };
+        }
+        if 0 < self.quiet_samples(counter) {
+            // It is only kept.
+            let count = SampleCount(plus(counter, 1));
+            let mut kept = self.listen(re, im, abs, input);
+            kept.next_input_sample_count = count;
+            return StateAnswered {
+                answer: Answer::Accepted,
+                state: kept,
+            };
+        }
+        let heard = self.valid().accept(re, im, abs, input, counter);
+        let state = heard.state;
+        StateAnswered {
+            answer: Answer::Accepted,
+            state,
+        }
     }
 }
 
 impl Demodulator {
     // Takes one sample, or refuses it and stays as it is.
-    pub fn sample(self, input: ComplexSample, sample_counter: SampleCount) -> Sampled
-        ensures answer { λ r. ⌜ answerNumber (r .answer) ≡ sampleRefusal (validCount (viewOf self .next)) input («sample_counter» .0) ⌝ }
-        ensures receiver { λ r. ⌜ viewOf (r .receiver) ≡ sampleOf (viewOf self) input («sample_counter» .0) ⌝ }
+    pub fn sample(self, input: ComplexSample, sample_counter: SampleCount) -> Answered
+        ensures answer { λ r. ⌜ replyOf (r .answer) ≡ sampleOutcome (viewOf self) input («sample_counter» .0) .reply ⌝ }
+        ensures receiver { λ r. ⌜ viewOf (r .receiver) ≡ sampleOutcome (viewOf self) input («sample_counter» .0) .receiver ⌝ }
+        ensures refused { λ r. ⌜ ((n : ℕ) → r .answer ≡ Answer.Refused n → r .receiver ≡ self) ⌝ }
     {
-        let s = self.state().valid();
-        let counter = sample_counter.0;
-        let refusal = sample_refusal(s.next_input_sample_count.0, input, counter);
-        if refusal != 0 {
-            return Sampled {
-                answer: Answer::Refused(refusal),
-                receiver: self,
-            };
-        }
-        let mut re = self.past_re;
-        let mut im = self.past_im;
-        let mut abs = self.past_abs;
-        let next = s.accept(&mut re, &mut im, &mut abs, input, counter);
-        Sampled {
-            answer: Answer::Accepted,
-            receiver: next.with_past(re, im, abs),
+        let state = self.state;
+        let past = self.past;
+        let mut re = past.re;
+        let mut im = past.im;
+        let mut abs = past.abs;
+        let sampled = state.sample(&mut re, &mut im, &mut abs, input, sample_counter);
+        let answer = sampled.answer;
+        let next = sampled.state;
+        Answered {
+            answer,
+            receiver: Demodulator {
+                state: next,
+                past: History { re, im, abs },
+            },
         }
     }
 }

@@ -1,24 +1,34 @@
 // A window closes: its bits, the burst in them, and when the next one closes.
 use crate::Mode;
-use crate::SlotBurstFinder;
+use crate::RxBurst;
+use crate::RxSlot;
 use crate::State;
+use crate::new::no_burst;
 use crate::sums::minus;
 use crate::sums::plus;
 use burst_finder::Finding;
+use burst_finder::MAX_ERRS;
 use burst_finder::SlotType;
 use dsp_types::SampleCount;
 use dsp_types::TdmaTime;
 ghost use mathlib.Core.Path.{_≡_};
 ghost use mathlib.Core.List.{List, []};
-ghost use Prim.Native.Nat.{_*_, _^_, _≤_};
+ghost use Prim.Native.Nat.{ℕ, _*_, _^_, _≤_};
 ghost use lib.ListN.{take};
 ghost use lib.IntN.{pos, _+ℤ_, _-ℤ_};
 ghost use lib.Ieee.{Float};
 ghost use Rattle.timing.specs.Tracking.{averagedOf};
-ghost use Rattle.burst_finder.specs.Slots.{checkSlot};
-ghost use Rattle.demodulator.specs.Receiver.{processPastSamples, processed, trackedLater, trackedSooner, schedule, closeWindow};
-ghost use Rattle.demodulator.specs.View.{receiverOf, signalFrom, Finds, Reads, IsWindow};
+ghost use Rattle.burst_finder.specs.Slots.{typeNumber};
+ghost use Rattle.demodulator.specs.Receiver.{withSlot, viewOn, checked, emptied, processPastSamples, processed, trackedLater, trackedSooner, schedule, closeWindow};
+ghost use Rattle.demodulator.specs.Windows.{isSlot, kindOf};
+ghost use Rattle.demodulator.specs.View.{modeOf, storedView, receiverOf, signalFrom, Reads, IsWindow};
 ghost use Rattle.demodulator.specs.Bounds.{Within, Timed, Closing};
+
+// A state, and whether a slot was handed over on the way to it.
+pub(crate) struct Heard {
+    pub state: State,
+    pub handed: bool,
+}
 
 // A window of the past: its symbol timing, and its bits with zeros behind them.
 struct Window {
@@ -47,14 +57,12 @@ fn read_window<'a>(
     }
 }
 
-// A finder with these bits and what was found in them.
-fn finder(bits: [u8; 510], bits_len: usize, f: Finding) -> SlotBurstFinder
-    ensures { λ r. ⌜ Finds r (take «bits_len» bits) f ⌝ }
+// A finding as it is stored.
+fn stored(f: Finding) -> RxBurst
+    ensures { λ r. ⌜ (r .«train_type» ≡ typeNumber (f .«train_type»)) × ((n : ℕ) (bits : List ℕ) → storedView n bits r ≡ viewOn (take n bits) f) ⌝ }
 {
     let train_type = f.train_type;
-    SlotBurstFinder {
-        bits,
-        bits_len,
+    RxBurst {
         train_type: train_type.number(),
         train_errs: f.train_errs,
         burst_pos: f.burst_pos,
@@ -62,18 +70,16 @@ fn finder(bits: [u8; 510], bits_len: usize, f: Finding) -> SlotBurstFinder
     }
 }
 
-// The finder of a window of so many bits, checked as a slot of this type.
-fn checked(slot_type: SlotType, w: Window, bits_len: usize) -> SlotBurstFinder
-    requires { ⌜ «bits_len» ≤ 510 ⌝ }
-    ensures { λ r. ⌜ Finds r (take «bits_len» (w .bits)) (checkSlot «slot_type» (take «bits_len» (w .bits))) ⌝ }
+// The burst in the first n bits, checked as those of a slot of this type.
+fn checked_burst(slot_type: SlotType, bits: [u8; 510], n: usize) -> RxBurst
+    requires { ⌜ n ≤ 510 ⌝ }
+    ensures { λ r. ⌜ (r .«train_type» ≡ checked «slot_type» (take n bits) .type) × (storedView n bits r ≡ checked «slot_type» (take n bits)) ⌝ }
 {
-    let bits = w.bits;
-    let found = burst_finder::check_slot(slot_type, &bits[..bits_len]);
-    finder(bits, bits_len, found)
+    stored(burst_finder::check_slot(slot_type, &bits[..n]))
 }
 
-// When the slot began whose burst is found at this place of a search window: 1018 samples before the window's close, less
-// those of (510 - 2 - place) / 2 symbols.
+// The reference time of a burst found at this place of a search window, one slot before the burst began: 1018 samples
+// before the window's close, less those of (510 - 2 - place) / 2 symbols.
 fn found_time(ready: i64, place: usize) -> i64
     requires { ⌜ Within (2 ^ 38) ready × (place ≤ 256) ⌝ }
     ensures { λ r. ⌜ r ≡ ready -ℤ pos 2034 +ℤ pos (place * 2) ⌝ }
@@ -90,6 +96,25 @@ fn averaged(error: f32, symbol_timing: f32) -> f32
 }
 
 impl State {
+    // The slot that was handed over last has this number, and no burst is in the whole of it.
+    fn emptied(self, time: TdmaTime) -> State
+        ensures { λ r. ⌜ ((re im abs : List Float) → receiverOf r re im abs ≡ withSlot (receiverOf self re im abs) (emptied (receiverOf self re im abs .slot) (time .0))) ⌝ }
+    {
+        let last = self.demodulated_slot;
+        let full = no_burst();
+        let first = last.subslot1;
+        let second = last.subslot2;
+        let slot = RxSlot {
+            time,
+            full,
+            subslot1: first,
+            subslot2: second,
+        };
+        let mut d = self;
+        d.demodulated_slot = slot;
+        d
+    }
+
     // Look for a synchronization sequence behind its nominal place, so that its burst can still be demodulated.
     fn search_window<'a>(
         self,
@@ -103,17 +128,13 @@ impl State {
         let w = read_window(re, im, abs, self.past_index, 1024, 256);
         let bits = w.bits;
         let found = burst_finder::find_sync(&bits);
-        let full = finder(bits, 510, Finding::not_found());
-        let mut d = self;
-        d.full_slot = full;
-        if 1 < found.dist {
-            return d;
+        if MAX_ERRS < found.dist {
+            return self.emptied(self.demodulated_slot.time);
         }
-        // The burst is to be slot 0; the current slot becomes that at the step to the next one.
-        let reference = SampleCount(found_time(d.slot_ready_time.0, found.pos));
-        let first = TdmaTime(0);
+        // The step to the next slot makes the current one 0, and the next sample skips that: the burst found is slot 1.
+        let reference = SampleCount(found_time(self.slot_ready_time.0, found.pos));
+        let mut d = self.emptied(TdmaTime(0));
         d.reference_time = reference;
-        d.demodulated_slot_time = first;
         d.averaged_timing_error = averaged(0.0, w.timing);
         d.slots_since_last_valid_burst = 0;
         let mut locked = d.set_slot(TdmaTime(283_115_519));
@@ -132,11 +153,21 @@ impl State {
         ensures { λ r. ⌜ receiverOf r (now (re .entry)) (now (im .entry)) (now (abs .entry)) ≡ processPastSamples Mode.Dl (receiverOf self (now (re .entry)) (now (im .entry)) (now (abs .entry))) ⌝ }
     {
         let w = read_window(re, im, abs, self.past_index, 1024, 256);
-        let full = checked(SlotType::Dl, w, 510);
-        let slot = self.current_slot;
+        let bits = w.bits;
+        let full = checked_burst(SlotType::Dl, bits, 510);
+        let last = self.demodulated_slot;
+        let time = self.current_slot;
+        let first = last.subslot1;
+        let second = last.subslot2;
+        let slot = RxSlot {
+            time,
+            full,
+            subslot1: first,
+            subslot2: second,
+        };
         let mut d = self;
-        d.full_slot = full;
-        d.demodulated_slot_time = slot;
+        d.demodulated_slot = slot;
+        d.full_bits = bits;
         d.demodulated_slot_available = true;
         if full.train_type != 0 {
             d.slots_since_last_valid_burst = 0;
@@ -164,11 +195,23 @@ impl State {
         let w = read_window(re, im, abs, self.past_index, 1024, 256);
         let w1 = read_window(re, im, abs, self.past_index, 1024, 128);
         let w2 = read_window(re, im, abs, self.past_index, 514, 128);
+        let bits = w.bits;
+        let bits1 = w1.bits;
+        let bits2 = w2.bits;
+        let full = checked_burst(SlotType::UlFull, bits, 510);
+        let first = checked_burst(SlotType::UlSub, bits1, 254);
+        let second = checked_burst(SlotType::UlSub, bits2, 254);
+        let slot = RxSlot {
+            time: self.current_slot.add_timeslots(-2),
+            full,
+            subslot1: first,
+            subslot2: second,
+        };
         let mut d = self;
-        d.full_slot = checked(SlotType::UlFull, w, 510);
-        d.subslot1 = checked(SlotType::UlSub, w1, 254);
-        d.subslot2 = checked(SlotType::UlSub, w2, 254);
-        d.demodulated_slot_time = d.current_slot.add_timeslots(-2);
+        d.demodulated_slot = slot;
+        d.full_bits = bits;
+        d.subslot1_bits = bits1;
+        d.subslot2_bits = bits2;
         d.demodulated_slot_available = true;
         d
     }
@@ -229,15 +272,19 @@ impl State {
         }
     }
 
+    // A window closes, and whether it handed a slot over: in Dl and in Ul.
     pub(crate) fn close_window<'a>(
         self,
         re: &'a [f32; 2048],
         im: &'a [f32; 2048],
         abs: &'a [f32; 2048],
-    ) -> State
+    ) -> Heard
         requires { ⌜ Closing 2000 (receiverOf self (now re) (now im) (now abs)) ⌝ }
-        ensures { λ r. ⌜ receiverOf r (now (re .entry)) (now (im .entry)) (now (abs .entry)) ≡ closeWindow (receiverOf self (now (re .entry)) (now (im .entry)) (now (abs .entry))) ⌝ }
+        ensures handed { λ r. ⌜ r .handed ≡ isSlot (kindOf (modeOf (self .mode)) (closeWindow (receiverOf self (now (re .entry)) (now (im .entry)) (now (abs .entry))))) ⌝ }
+        ensures state { λ r. ⌜ receiverOf (r .state) (now (re .entry)) (now (im .entry)) (now (abs .entry)) ≡ closeWindow (receiverOf self (now (re .entry)) (now (im .entry)) (now (abs .entry))) ⌝ }
     {
-        self.process_past_samples(re, im, abs).schedule()
+        let handed = (self.mode == 2) | (self.mode == 3);
+        let state = self.process_past_samples(re, im, abs).schedule();
+        Heard { state, handed }
     }
 }

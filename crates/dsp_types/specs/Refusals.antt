@@ -62,9 +62,13 @@ notFollowing = 13
 unfoldable pub beyond : Float → Bool
 beyond x = not (le (ofBits binary32 0xc480_0000) x && le x (ofBits binary32 0x4480_0000))
 
+-- the last sample counter that is not refused
+abbrev pub lastCounter : ℕ
+lastCounter = 137438953471
+
 -- a sample counter is refused (2)
 unfoldable pub outOfCount : ℤ → Bool
-outOfCount (pos n) = ltb 137438953471 n
+outOfCount (pos n) = ltb lastCounter n
 outOfCount (negsuc n) = true
 
 -- a slice that should have n elements is refused (3)

@@ -1,4 +1,19 @@
 // What every stage shares: a complex sample, a sample count, a slot number, the smaller of two lengths, and the check of bit bytes.
+mod refusals;
+
+pub use refusals::ACCEPTED;
+pub use refusals::BAD_BIT;
+pub use refusals::BAD_COUNTER;
+pub use refusals::BAD_KIND;
+pub use refusals::BAD_LENGTH;
+pub use refusals::BAD_SAMPLE;
+pub use refusals::BAD_SLOT;
+pub use refusals::BAD_TRAINING;
+pub use refusals::LAST_COUNTER;
+pub use refusals::NEED_MORE_DATA;
+pub use refusals::NO_SLOT;
+pub use refusals::NOT_FOLLOWING;
+pub use refusals::PAST_COUNTER;
 ghost use mathlib.Core.Path.{_≡_};
 ghost use Prim.Native.Nat.{_%_, min};
 ghost use lib.IntN.{pos, _+ℤ_};

@@ -7,7 +7,6 @@ use lib.Ieee.{Float, nan}
 use Rattle.dsp_types.specs.declared.ComplexSample.{ComplexSample}
 use Rattle.dsp_types.specs.Samples.{silence, ago}
 use Rattle.dsp_types.specs.Ring.{ringAt, ringSample, newest}
-use Rattle.history.specs.declared.History.{History}
 
 -- the elements of a ring whose newest stands at `at`
 unfoldable pub heldIn : List Float → ℕ → List Float
@@ -16,14 +15,6 @@ heldIn ring at = newest 2048 (ringAt nan 2048 ring (at % 2048))
 -- the samples of two such rings
 unfoldable pub samplesIn : List Float → List Float → ℕ → List ComplexSample
 samplesIn re im at = newest 2048 (ringSample 2048 re im (at % 2048))
-
--- the samples of the past
-abbrev pub pastOf : History → List ComplexSample
-pastOf h = samplesIn (h .re) (h .im) (h .index)
-
--- their magnitudes
-abbrev pub absOf : History → List Float
-absOf h = heldIn (h .abs) (h .index)
 
 -- the newest 2,048 after xs, oldest first, are written one by one
 unfoldable pub heldAfter : {A : Type 0} → List A → List A → List A

@@ -1,23 +1,21 @@
 // The past (history.rs): the newest 2,048 filtered samples and beside each its magnitude, in rings with one index.
-use dsp_types::ComplexSample;
 use dsp_types::least;
 ghost use mathlib.Core.Path.{_≡_};
-ghost use mathlib.Core.List.{_∷_};
 ghost use Prim.Native.Nat.{_+_, _≤_, _%_};
-ghost use lib.ListN.{length, take, replicate};
-ghost use Rattle.dsp_types.specs.Samples.{zeroF, silence, ago};
-ghost use Rattle.history.specs.History.{heldIn, pastOf, absOf, heldAfter};
+ghost use lib.ListN.{length, replicate};
+ghost use Rattle.dsp_types.specs.Samples.{zeroF, ago};
+ghost use Rattle.history.specs.History.{heldIn, heldAfter};
 
-// The newest sample stands at `index`.
+// What is kept of the past: three rings. Where their newest element stands is kept beside them.
+#[repr(C)]
 pub struct History {
     pub re: [f32; 2048],
     pub im: [f32; 2048],
     pub abs: [f32; 2048],
-    pub index: usize,
 }
 
 // The place after `at`.
-pub fn next(at: usize) -> usize
+fn next(at: usize) -> usize
     ensures { λ r. ⌜ r ≡ (at % 2048 + 1) % 2048 ⌝ }
 {
     (at % 2048 + 1) % 2048
@@ -69,44 +67,14 @@ pub fn store(ring: &mut [f32; 2048], at: usize, from: &[f32]) -> usize
 }
 
 impl History {
+    // Zeros, wherever the newest stands.
     pub fn new() -> History
-        ensures samples { λ r. ⌜ pastOf r ≡ replicate 2048 silence ⌝ }
-        ensures abs { λ r. ⌜ absOf r ≡ replicate 2048 zeroF ⌝ }
+        ensures { λ r. ⌜ (r .re ≡ replicate 2048 zeroF) × (r .im ≡ replicate 2048 zeroF) × (r .abs ≡ replicate 2048 zeroF) ⌝ }
     {
         History {
             re: [0.0; 2048],
             im: [0.0; 2048],
             abs: [0.0; 2048],
-            index: 0,
         }
-    }
-
-    // The past with one sample more, of magnitude `abs`.
-    pub fn write(mut self, sample: ComplexSample, abs: f32) -> History
-        ensures samples { λ r. ⌜ pastOf r ≡ take 2048 (sample ∷ pastOf self) ⌝ }
-        ensures abs { λ r. ⌜ absOf r ≡ take 2048 (abs ∷ absOf self) ⌝ }
-    {
-        let index = next(self.index);
-        self.re[index] = sample.re;
-        self.im[index] = sample.im;
-        self.abs[index] = abs;
-        self.index = index;
-        self
-    }
-
-    pub fn delayed(self, delay: usize) -> ComplexSample
-        ensures { λ r. ⌜ r ≡ ago silence (pastOf self) (delay % 2048) ⌝ }
-    {
-        let index = self.index;
-        let re = recall(&self.re, index, delay);
-        let im = recall(&self.im, index, delay);
-        ComplexSample { re, im }
-    }
-
-    pub fn delayed_abs(self, delay: usize) -> f32
-        ensures { λ r. ⌜ r ≡ ago zeroF (absOf self) (delay % 2048) ⌝ }
-    {
-        let index = self.index;
-        recall(&self.abs, index, delay)
     }
 }

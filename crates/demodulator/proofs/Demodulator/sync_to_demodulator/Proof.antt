@@ -1,28 +1,29 @@
--- `Demodulator::sync_to_demodulator` meets its contract, by the test of its own mode.
-use mathlib.Core.Path.{_∙_}
-use Rattle.demodulator.specs.Calls.{answerNumber}
+-- `Demodulator::sync_to_demodulator` meets its contract: the state's, with the past beside it.
+use mathlib.Core.Path.{ap}
+use Rattle.demodulator.specs.declared.State.{State}
+use Rattle.demodulator.specs.declared.Demodulator.{Demodulator}
 use Rattle.demodulator.specs.View.{viewOf}
-use Rattle.demodulator.proofs.Taking.{follow-refused, follow-accepted, refused-stays, accepted-follows}
 use borrow.Author.Needs.{needs}
 use Rattle.demodulator.proofs.Demodulator.sync_to_demodulator.Statement.{statement}
 use Rattle.demodulator.proofs.Demodulator.sync_to_demodulator.Tie as tie
 
+sync-to-demodulator-requires : tie.Need-sync-to-demodulator-requires
+sync-to-demodulator-requires c κs = search needs
+
 returns : tie.Need-returns
-unfolding viewOf answerNumber
+unfolding viewOf
 returns c =
-    let a = c .before .args in
-    let e = follow-refused (a .self .mode) (c .if1 .taken) in
-    (e, refused-stays (viewOf (a .self)) (viewOf (a .demod)) 12 e)
-
-follow-requires : tie.Need-follow-requires
-follow-requires c κs = search needs
-
-returns-2 : tie.Need-returns-2
-unfolding viewOf answerNumber
-returns-2 c =
-    let a = c .before .before .args in
-    let e = follow-accepted (a .self .mode) (c .before .if1 .left) in
-    (e, c .follow .ensures ∙ accepted-follows (viewOf (a .self)) (viewOf (a .demod)) e)
+    let f = c .before in
+    let a = f .before .before .before .before .args in
+    let p = a .self .past in
+    let q = a .demod .past in
+    let e = f .sync-to-demodulator .ensures in (
+      e .0 (p .re) (p .im) (p .abs) (q .re) (q .im) (q .abs),
+      (
+        e .1 .0 (p .re) (p .im) (p .abs) (q .re) (q .im) (q .abs),
+        (e .1 .1 .0, λ n h. ap (λ (s : State). record { state = s; past = p }) (e .1 .1 .1 n h)),
+      ),
+    )
 
 pub sync-to-demodulator-spec : {M : Type 1} → statement M
-sync-to-demodulator-spec = tie.close (tie.spec returns follow-requires returns-2)
+sync-to-demodulator-spec = tie.close (tie.spec sync-to-demodulator-requires returns)

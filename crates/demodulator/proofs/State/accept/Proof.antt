@@ -1,107 +1,166 @@
--- `State::accept` meets its contract: zeros for what is missing, then the sample.
-use mathlib.Core.Path.{_≡_, ap, _∙_}
-use Prim.Native.Nat.{ℕ, _≤_, _^_}
+-- `State::accept` meets its contract: zeros for what is missing, part by part, then the sample.
+use mathlib.Core.Path.{_≡_, refl, ap, sym, _∙_}
+use mathlib.Core.Bool.{Bool, _||_}
+use Prim.Native.Nat.{ℕ, _-_, _≤_, _<_, _^_}
 use native.Mathlib.Omega.{arith}
 use lib.Dec.{lit≤}
 use lib.IntN.{_-ℤ_}
 use mir.Syntax.{w64}
 use mir.Val.{toZ, ofZ}
+use mir.ValLaws.{toZ-ofZ}
 use Rattle.dsp_types.specs.Ints.{up}
-use Rattle.demodulator.specs.Receiver.{Receiver}
-use Rattle.demodulator.specs.Calls.{accept, expecting, missing, feedZeros}
+use Rattle.demodulator.specs.Receiver.{Receiver, withNext, processSample, missing, feedZeros, accept}
+use Rattle.demodulator.specs.Windows.{handsOver, windowOf, zerosWindows}
 use Rattle.demodulator.specs.View.{receiverOf}
+use Rattle.demodulator.specs.Bounds.{Timed, Catching}
 use Rattle.demodulator.proofs.Signed.{read, read-within, wider, within-pos, counter-within}
-use Rattle.demodulator.proofs.Doors.{missing-most, missing-below, zeros-timed, next-view}
+use Rattle.demodulator.proofs.Samples.{no-zeros}
+use Rattle.demodulator.proofs.Handing.{or-false, or-assoc, no-zeros-hand, accept-hands}
+use Rattle.demodulator.proofs.Doors.{missing-most, missing-below}
 use Rattle.demodulator.proofs.Steps.{timed-longer}
 use Rattle.demodulator.proofs.State.accept.Statement.{statement}
 use Rattle.demodulator.proofs.State.accept.Tie as tie
-use Rattle.demodulator.proofs.State.accept.Reads as reads
-use Rattle.demodulator.proofs.State.accept.Lts as lts
-use Rattle.demodulator.proofs.State.process_sample.Reads as process-sample-reads
-use Rattle.demodulator.proofs.State.process_zeros.Reads as process-zeros-reads
-use Rattle.demodulator.proofs.process.missing_samples.Reads as missing-samples-reads
-use Rattle.demodulator.proofs.sums.plus.Reads as plus-reads
 
-abbrev receiver : tie.Start → Receiver
-receiver s = receiverOf (s .args .self) (s .args .re .now) (s .args .im .now) (s .args .abs .now)
+-- the zeros left, fed from here, come to what all of them would; what was handed over so far is told
+abbrev Inv-loop : tie.InvT-loop
+Inv-loop re₀ im₀ abs₀ input counter left₀ next d₀ handed₀ re im abs left d handed =
+    (left ≤ left₀)
+    × Timed (1021 - left) (receiverOf d re im abs)
+    × (feedZeros left₀ (receiverOf d₀ re₀ im₀ abs₀) (toZ w64 counter) ≡ feedZeros left (receiverOf d re im abs) (toZ w64 counter))
+    × (handsOver (zerosWindows left₀ (receiverOf d₀ re₀ im₀ abs₀) (toZ w64 counter)) ≡ (handed || handsOver (zerosWindows left (receiverOf d re im abs) (toZ w64 counter))))
 
-lost : (c : tie.After-missing-samples) → c .missing-samples .result ≡ missing (c .before .before .args .counter -ℤ receiver (c .before .before) .next)
+abbrev μ-loop : tie.MeasureT-loop
+μ-loop re₀ im₀ abs₀ input counter left₀ next d₀ handed₀ re im abs left d handed = left
+
+abbrev start : tie.After-missing-samples Inv-loop μ-loop → tie.Start Inv-loop μ-loop
+start c = c .before .before
+
+abbrev given : tie.Start Inv-loop μ-loop → Receiver
+given s = receiverOf (s .args .self) (s .args .re .now) (s .args .im .now) (s .args .abs .now)
+
+lost : (c : tie.After-missing-samples Inv-loop μ-loop) → c .missing-samples .result ≡ missing (start c .args .counter -ℤ given (start c) .next)
 unfolding receiverOf
 lost c =
-    let p = c .before .before .pre in
-    rw (c .missing-samples .ensures, read-within (wider (2 ^ 61) (lit≤ tt) (p .next)), read-within (counter-within (p .counter)))
+    let p = start c .pre in
+    c .missing-samples .ensures ∙ rw (read-within (wider (2 ^ 61) (lit≤ tt) (p .next)), read-within (counter-within (p .counter)))
 
-few : (c : tie.After-missing-samples) → c .missing-samples .result ≤ 1020
-few c = rw (lost c) (missing-most (c .before .before .args .counter -ℤ receiver (c .before .before) .next))
+few : (c : tie.After-missing-samples Inv-loop μ-loop) → c .missing-samples .result ≤ 1020
+few c = omega (arith, lost c, missing-most (start c .args .counter -ℤ given (start c) .next))
 
-fewer : (c : tie.After-missing-samples) → c .missing-samples .result ≤ up (c .before .before .args .counter)
+fewer : (c : tie.After-missing-samples Inv-loop μ-loop) → c .missing-samples .result ≤ up (start c .args .counter)
 fewer c =
-    let s = c .before .before in
-    rw (lost c) (missing-below (s .args .counter) (receiver s .next) (s .pre .low) (s .pre .counter .low))
-
--- the rings after the zeros
-abbrev number : tie.After-process-zeros → tie.After-missing-samples
-number c = c .before .before .before .before .before
-
-abbrev start : tie.After-process-zeros → tie.Start
-start c = number c .before .before
-
-abbrev zeroed : tie.After-process-zeros → Receiver
-zeroed c = receiverOf (c .process-zeros .result) (c .process-zeros .last .1 .0) (c .process-zeros .last .1 .1 .0) (c .process-zeros .last .1 .1 .1 .0)
-
-zeroed-is : (c : tie.After-process-zeros) → let s = start c in
-    zeroed c ≡ feedZeros (missing (s .args .counter -ℤ receiver s .next)) (receiver s) (s .args .counter)
-zeroed-is c =
     let s = start c in
-    c .process-zeros .ensures
-    ∙ ap (feedZeros (number c .missing-samples .result) (receiver s)) (read-within (counter-within (s .pre .counter)))
-    ∙ ap (λ (n : ℕ). feedZeros n (receiver s) (s .args .counter)) (lost (number c))
+    omega (arith, lost c, missing-below (s .args .counter) (given s .next) (s .pre .low) (s .pre .counter .low))
 
-missing-samples-requires : tie.Need-missing-samples-requires
+abbrev number : tie.At-loop Inv-loop μ-loop → tie.After-missing-samples Inv-loop μ-loop
+number t = t .before .before
+
+abbrev receiver : tie.At-loop Inv-loop μ-loop → Receiver
+receiver t = receiverOf (t .loop .d) (t .loop .re) (t .loop .im) (t .loop .abs)
+
+missing-samples-requires : tie.Need-missing-samples-requires Inv-loop μ-loop
 unfolding receiverOf
 missing-samples-requires c κs =
     let p = c .before .pre in
     rw (read-within (wider (2 ^ 61) (lit≤ tt) (p .next)), read-within (counter-within (p .counter))) (p .next, p .counter, p .later)
 
-plus-requires : tie.Need-plus-requires
+plus-requires : tie.Need-plus-requires Inv-loop μ-loop
 plus-requires c κs =
-    let h = counter-within (c .before .before .pre .counter) in
+    let h = counter-within (start c .pre .counter) in
     rw (read-within h) (h, within-pos (2 ^ 61) (lit≤ tt))
 
-process-zeros-requires : tie.Need-process-zeros-requires
+loop-holds : tie.Need-loop-holds Inv-loop μ-loop
+loop-holds c = (omega arith, timed-longer (1021 - c .before .missing-samples .result) (omega (arith, few (c .before))) (start (c .before) .pre .timed), refl, refl)
+
+process-zeros-requires : tie.Need-process-zeros-requires Inv-loop μ-loop
 process-zeros-requires c κs =
-    let n = c .before .before .before .before in
-    let p = n .before .before .pre in
-    rw (read-within (counter-within (p .counter))) (p .timed, p .counter, few n, fewer n)
+    let t = c .before .before .before .before in
+    let n = number t in
+    let p = start n .pre in
+    let l : t .loop .left ≤ n .missing-samples .result = t .loop .inv .0 in
+    rw (read-within (counter-within (p .counter)))
+    (record { timed = t .loop .inv .1; counter = p .counter; most = omega (arith, few n, l); above-zero = omega (arith, fewer n, l) })
 
-process-sample-requires : tie.Need-process-sample-requires
+loop-less : tie.Need-loop-less Inv-loop μ-loop
+loop-less c =
+    let z = c .before .before in
+    omega (arith, z .process-zeros .ensures .less (z .before .before .before .before .loop-test .taken))
+
+loop-again : tie.Need-loop-again Inv-loop μ-loop
+loop-again c =
+    let z = c .before .before in
+    let i = z .before .before .before .before in
+    let t = i .before in
+    let l = t .loop in
+    let s = start (number t) in
+    let e = z .process-zeros .ensures in
+    let below : z .process-zeros .result .left < l .left = e .less (i .loop-test .taken) in (
+      omega (arith, below, l .inv .0),
+      e .timed,
+      l .inv .2 ∙ e .receiver,
+      l .inv .3 ∙ ap (λ (b : Bool). l .handed || b) (e .windows) ∙ sym (or-assoc (l .handed) (z .process-zeros .result .handed) _),
+    )
+
+none-left : (c : tie.After-loop Inv-loop μ-loop) → c .before .loop .left ≤ 0
+none-left c = omega arith
+
+-- after the zeros
+module _ (t : tie.At-loop Inv-loop μ-loop) (ends : t .loop .left ≤ 0) where
+  abbrev s : tie.Start Inv-loop μ-loop
+  s = start (number t)
+
+  counted : toZ w64 (ofZ w64 (s .args .counter)) ≡ s .args .counter
+  counted = toZ-ofZ w64 (s .args .counter) (s .fits .counter)
+
+  zeroed : receiver t ≡ feedZeros (missing (s .args .counter -ℤ given s .next)) (given s) (s .args .counter)
+  zeroed =
+      no-zeros (t .loop .left) (receiver t) (s .args .counter) ends
+      ∙ sym (rw counted at (t .loop .inv .2))
+      ∙ ap (λ (n : ℕ). feedZeros n (given s) (s .args .counter)) (lost (number t))
+
+  zeros-handed : t .loop .handed ≡ handsOver (zerosWindows (missing (s .args .counter -ℤ given s .next)) (given s) (s .args .counter))
+  zeros-handed =
+      sym (or-false (t .loop .handed))
+      ∙ ap (λ (b : Bool). t .loop .handed || b) (sym (no-zeros-hand (t .loop .left) (receiver t) (s .args .counter) ends))
+      ∙ sym (rw counted at (t .loop .inv .3))
+      ∙ ap (λ (n : ℕ). handsOver (zerosWindows n (given s) (s .args .counter))) (lost (number t))
+
+process-sample-requires : tie.Need-process-sample-requires Inv-loop μ-loop
 process-sample-requires c κs =
-    let z = c .before .before .before in
-    let s = start z in
-    let p = s .pre in
-    let n = missing (s .args .counter -ℤ receiver s .next) in
-    let l = missing-most (s .args .counter -ℤ receiver s .next) in
-    let t = zeros-timed n 1 (receiver s) (s .args .counter) (omega (arith, l)) (missing-below (s .args .counter) (receiver s .next) (p .low) (p .counter .low)) (p .counter) (p .timed) in
-    rw (zeroed-is z, read-within (counter-within (p .counter))) (timed-longer 2000 (omega (arith, l)) t, p .counter)
+    let t = c .before .before .before .before in
+    let p = start (number t) .pre in
+    rw (read-within (counter-within (p .counter))) (timed-longer 2000 (omega arith) (t .loop .inv .1), p .counter)
 
-returns : tie.Need-returns
-unfolding accept
+returns : tie.Need-returns Inv-loop μ-loop
+unfolding accept receiverOf withNext
 returns c =
-    let z = c .before .before .before .before in
-    let s = start z in
+    let p = c .before .before in
+    let t = p .before .before .before .before .before in
+    let s = start (number t) in
+    let ends = none-left (p .before .before .before .before) in
     let h = counter-within (s .pre .counter) in
-    let u = z .before .before .before .before in
+    let u = t .before in
     let n = toZ w64 (ofZ w64 (u .plus .result)) in
-    next-view (c .process-sample .result) _ _ _ n
-    ∙ ap (λ (r : Receiver). expecting r n) (c .process-sample .ensures ∙ rw (zeroed-is z, read-within h))
-    ∙ ap (expecting _) (read _ (u .plus .ok) ∙ u .plus .ensures ∙ rw (read-within h))
+    let k = missing (s .args .counter -ℤ given s .next) in
+    let r = p .process-sample .ensures in (
+      ap (λ (b : Bool). b || p .process-sample .result .handed) (zeros-handed t ends)
+          ∙ ap (λ (b : Bool). handsOver (zerosWindows k (given s) (s .args .counter)) || b) (rw (zeroed t ends, read-within h) at (r .0))
+          ∙ sym (accept-hands (given s) (s .args .input) (s .args .counter)),
+      ap (λ (q : Receiver). withNext q n) (rw (zeroed t ends, read-within h) at (r .1))
+          ∙ ap (withNext (processSample (feedZeros k (given s) (s .args .counter)) (s .args .input) (s .args .counter))) (read _ (u .plus .ok) ∙ u .plus .ensures ∙ rw (read-within h)),
+    )
 
 pub accept-spec : {M : Type 1} → statement M
 accept-spec =
     tie.close
     (tie.spec
+    Inv-loop
+    μ-loop
     missing-samples-requires
     plus-requires
+    loop-holds
     process-zeros-requires
+    loop-less
+    loop-again
     process-sample-requires
     returns)

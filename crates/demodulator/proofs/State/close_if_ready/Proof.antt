@@ -6,14 +6,10 @@ use Rattle.demodulator.specs.Receiver.{Receiver, closes, closeIf}
 use Rattle.demodulator.specs.View.{receiverOf}
 use Rattle.demodulator.proofs.Signed.{read, read-within, wider, within-pos, counter-within}
 use Rattle.demodulator.proofs.Steps.{closing}
+use Rattle.demodulator.proofs.Handing.{hands-closed, hands-none}
 use borrow.Author.Needs.{needs}
 use Rattle.demodulator.proofs.State.close_if_ready.Statement.{statement}
 use Rattle.demodulator.proofs.State.close_if_ready.Tie as tie
-use Rattle.demodulator.proofs.State.close_if_ready.Reads as reads
-use Rattle.demodulator.proofs.State.close_if_ready.Lts as lts
-use Rattle.demodulator.proofs.State.close_window.Reads as close-window-reads
-use Rattle.demodulator.proofs.sums.is_same.Reads as is-same-reads
-use Rattle.demodulator.proofs.sums.minus.Reads as minus-reads
 
 abbrev receiver : tie.Start → Receiver
 receiver s = receiverOf (s .args .self) (s .args .re .now) (s .args .im .now) (s .args .abs .now)
@@ -38,12 +34,18 @@ close-window-requires c κs =
     closing 2000 (receiver s) (s .args .counter) (s .pre .0) (s .pre .1) (sym (tested (c .before)) ∙ c .if1 .taken)
 
 returns : tie.Need-returns
-unfolding closeIf
-returns c = rw (c .close-window .ensures, sym (tested (c .before .before)) ∙ c .before .if1 .taken)
+unfolding closeIf receiverOf
+returns c =
+    let s = c .before .before .before .before .before in
+    let t = sym (tested (c .before .before)) ∙ c .before .if1 .taken in
+    (rw t (c .close-window .ensures .0 ∙ hands-closed (receiver s) (s .args .counter)), rw t (c .close-window .ensures .1))
 
 returns-2 : tie.Need-returns-2
-unfolding closeIf
-returns-2 c = rw (sym (tested (c .before)) ∙ c .if1 .left)
+unfolding closeIf receiverOf
+returns-2 c =
+    let s = c .before .before .before .before in
+    let t = sym (tested (c .before)) ∙ c .if1 .left in
+    (rw t (hands-none (receiver s) (s .args .counter)), rw t)
 
 pub close-if-ready-spec : {M : Type 1} → statement M
 close-if-ready-spec =

@@ -6,6 +6,7 @@ use Rattle.demodulator.specs.Receiver.{Receiver, schedule, closeWindow}
 use Rattle.demodulator.specs.View.{receiverOf}
 use Rattle.demodulator.proofs.Times.{processed-timed, later-on}
 use Rattle.demodulator.proofs.Steps.{timed-past}
+use Rattle.demodulator.proofs.Handing.{hands}
 use borrow.Author.Needs.{needs}
 use Rattle.demodulator.proofs.State.close_window.Statement.{statement}
 use Rattle.demodulator.proofs.State.close_window.Tie as tie
@@ -15,15 +16,18 @@ process-past-samples-requires c κs = search needs
 
 schedule-requires : tie.Need-schedule-requires
 schedule-requires c κs =
-    let a = c .before .args in
-    let t = later-on 3000 (lit≤ tt) (processed-timed 2000 (receiverOf (a .self) (a .re .now) (a .im .now) (a .abs .now)) (lit≤ tt) (c .before .pre)) in
+    let s = c .before .before .before in
+    let a = s .args in
+    let t = later-on 3000 (lit≤ tt) (processed-timed 2000 (receiverOf (a .self) (a .re .now) (a .im .now) (a .abs .now)) (lit≤ tt) (s .pre)) in
     timed-past (c .process-past-samples .result) (a .re .now) (a .im .now) (a .abs .now) [] [] [] (rw (c .process-past-samples .ensures) t)
 
 returns : tie.Need-returns
 unfolding closeWindow
 returns c =
-    let a = c .before .before .args in
-    c .schedule .ensures (a .re .now) (a .im .now) (a .abs .now) ∙ ap (λ (r : Receiver). schedule (r .mode) r) (c .before .process-past-samples .ensures)
+    let a = c .before .before .before .before .args in (
+      hands (a .self .mode) _,
+      c .schedule .ensures (a .re .now) (a .im .now) (a .abs .now) ∙ ap (λ (r : Receiver). schedule (r .mode) r) (c .before .process-past-samples .ensures),
+    )
 
 pub close-window-spec : {M : Type 1} → statement M
 close-window-spec = tie.close (tie.spec process-past-samples-requires schedule-requires returns)

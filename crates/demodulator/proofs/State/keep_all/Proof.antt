@@ -9,6 +9,7 @@ use mir.ValLaws.{toZ-ofZ}
 use Rattle.dsp_types.specs.declared.ComplexSample.{ComplexSample}
 use Rattle.dsp_types.specs.Samples.{zeroF}
 use Rattle.fir.specs.Fir.{lineOf, lineAfter, blockOf, outsOf, samplesOf, reOf, imOf}
+use Rattle.demodulator.specs.Receiver.{withNext, withSignal}
 use Rattle.demodulator.specs.Quiet.{keepAll, magnitudesOf}
 use Rattle.demodulator.specs.View.{receiverOf}
 use Rattle.demodulator.proofs.Rows.{whole-block, sized, re-count, im-count, abs-count, re-out, im-out, abs-out, heard-rows}
@@ -48,17 +49,17 @@ block-requires : tie.Need-block-requires
 block-requires c κs = search needs
 
 -- what the block makes of the line, and what it writes
-block-is : (c : tie.After-block) → blockOf (xs c) (ys c) (replicate 1024 zeroF) (replicate 1024 zeroF) ≡ samples c
-block-is c = whole-block (xs c) (ys c) (replicate 1024 zeroF) (replicate 1024 zeroF) (start c .pre .0) (start c .pre .1) (length-replicate 1024 zeroF) (length-replicate 1024 zeroF)
+block-is : (c : tie.After-block) → blockOf (xs c) (ys c) (replicate 512 zeroF) (replicate 512 zeroF) ≡ samples c
+block-is c = whole-block (xs c) (ys c) (replicate 512 zeroF) (replicate 512 zeroF) (start c .pre .0) (start c .pre .1) (length-replicate 512 zeroF) (length-replicate 512 zeroF)
 
 line-after : (c : tie.After-block) → lineOf (c .block .result) ≡ lineAfter (line c) (samples c)
 line-after c = rw (block-is c) at (c .block .ensures .0)
 
 outs-re : (c : tie.After-block) → take (length (xs c)) (c .block .last .1 .1 .1 .0) ≡ reOf (outs c)
-outs-re c = re-out (line c) (xs c) (ys c) (length (xs c)) refl (same-long c) (replicate 1024 zeroF) _ (rw (block-is c) at (c .block .ensures .1 .0))
+outs-re c = re-out (line c) (xs c) (ys c) (length (xs c)) refl (same-long c) (replicate 512 zeroF) _ (rw (block-is c) at (c .block .ensures .1 .0))
 
 outs-im : (c : tie.After-block) → take (length (xs c)) (c .block .last .1 .1 .1 .1 .0) ≡ imOf (outs c)
-outs-im c = im-out (line c) (xs c) (ys c) (length (xs c)) refl (same-long c) (replicate 1024 zeroF) _ (rw (block-is c) at (c .block .ensures .1 .1))
+outs-im c = im-out (line c) (xs c) (ys c) (length (xs c)) refl (same-long c) (replicate 512 zeroF) _ (rw (block-is c) at (c .block .ensures .1 .1))
 
 re-long : (c : tie.After-block) → length (take (length (xs c)) (c .block .last .1 .1 .1 .0)) ≡ length (xs c)
 re-long c = rw (outs-re c) (re-count (line c) (xs c) (ys c) (length (xs c)) refl (same-long c))
@@ -93,7 +94,7 @@ abs-is c =
     let n = length (xs b) in
     let re = take n (b .block .last .1 .1 .1 .0) in
     let im = take n (b .block .last .1 .1 .1 .1 .0) in
-    let e = ap (take (length re)) (c .magnitudes .ensures) ∙ sized re im (replicate 1024 zeroF) (re-long b ∙ sym (im-long b)) (omega (arith, re-long b, start b .pre .1, length-replicate 1024 zeroF)) in
+    let e = ap (take (length re)) (c .magnitudes .ensures) ∙ sized re im (replicate 512 zeroF) (re-long b ∙ sym (im-long b)) (omega (arith, re-long b, start b .pre .1, length-replicate 512 zeroF)) in
     abs-out (line b) (xs b) (ys b) n refl (same-long b) re im (take n (c .magnitudes .last .1 .1 .0)) (outs-re b) (outs-im b) (rw (re-long b) at e)
 
 abs-long : (c : tie.After-magnitudes) → length (take (length (xs (filtered c))) (c .magnitudes .last .1 .1 .0)) ≡ length (xs (filtered c))
@@ -129,7 +130,7 @@ store-requires-3 : tie.Need-store-requires-3
 store-requires-3 c κs = search needs
 
 returns : tie.Need-returns
-unfolding receiverOf keepAll
+unfolding receiverOf keepAll withNext withSignal
 returns c =
     let t2 = c .before .before .before in
     let t1 = t2 .before .before .before in

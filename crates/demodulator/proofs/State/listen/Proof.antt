@@ -2,7 +2,7 @@
 use mathlib.Core.Path.{_∙_, sym}
 use borrow.Author.Needs.{needs}
 use Rattle.fir.specs.Fir.{lineOf}
-use Rattle.demodulator.specs.Receiver.{listen}
+use Rattle.demodulator.specs.Receiver.{listen, withSignal}
 use Rattle.demodulator.specs.View.{receiverOf}
 use Rattle.demodulator.proofs.Hearing.{heard}
 use Rattle.demodulator.proofs.State.listen.Statement.{statement}
@@ -33,7 +33,7 @@ store-requires-3 : tie.Need-store-requires-3
 store-requires-3 c κs = search needs
 
 returns : tie.Need-returns
-unfolding receiverOf listen
+unfolding receiverOf listen withSignal
 returns c =
     let second = c .before .before .before in
     let first = second .before .before .before in

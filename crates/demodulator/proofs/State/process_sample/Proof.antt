@@ -6,18 +6,13 @@ use lib.Dec.{lit≤}
 use lib.IntN.{ℤ}
 use lib.Ieee.{Float}
 use Rattle.demodulator.specs.Receiver.{Receiver, listen, far, skipIf, arrived, processSample, tdiff}
+use Rattle.demodulator.specs.Windows.{windowOf}
 use Rattle.demodulator.specs.View.{receiverOf}
 use Rattle.demodulator.proofs.Signed.{read, read-within, wider, counter-within, counter-37}
 use Rattle.demodulator.proofs.Steps.{listen-timed, arrived-timed, timed-longer, timed-past, tdiff-within}
 use borrow.Author.Needs.{needs}
 use Rattle.demodulator.proofs.State.process_sample.Statement.{statement}
 use Rattle.demodulator.proofs.State.process_sample.Tie as tie
-use Rattle.demodulator.proofs.State.process_sample.Reads as reads
-use Rattle.demodulator.proofs.State.process_sample.Lts as lts
-use Rattle.demodulator.proofs.State.close_if_ready.Reads as close-if-ready-reads
-use Rattle.demodulator.proofs.State.listen.Reads as listen-reads
-use Rattle.demodulator.proofs.State.skip_slots.Reads as skip-slots-reads
-use Rattle.demodulator.proofs.clock.tdiff.Reads as tdiff-reads
 
 abbrev receiver : tie.Start → Receiver
 receiver s = receiverOf (s .args .self) (s .args .re .now) (s .args .im .now) (s .args .abs .now)
@@ -78,11 +73,12 @@ close-if-ready-requires c κs =
     rw (arrives k, read-within (counter-within (s .pre .1))) (arrived-timed 2000 (receiver s) (s .args .input) (s .args .counter) (lit≤ tt) (s .pre .0), s .pre .1)
 
 returns : tie.Need-returns
-unfolding processSample
+unfolding processSample windowOf
 returns c =
     let k = c .before .before .before .before in
     let s = start (k .before) in
-    rw (c .close-if-ready .ensures, arrives k, read-within (counter-within (s .pre .1)))
+    let z = read-within (counter-within (s .pre .1)) in
+    (rw (arrives k, z) at (c .close-if-ready .ensures .0), rw (arrives k, z) at (c .close-if-ready .ensures .1))
 
 pub process-sample-spec : {M : Type 1} → statement M
 process-sample-spec =

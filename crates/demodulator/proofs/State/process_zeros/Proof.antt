@@ -1,18 +1,20 @@
--- `State::process_zeros` meets its contract. The loop's invariant: the zeros left, fed from here, end where all of them would.
+-- `State::process_zeros` meets its contract. The loop's invariant: the zeros left, fed from here, come to what all of them would.
 use mathlib.Core.Path.{_≡_, refl, ap, sym, _∙_}
-use Prim.Native.Nat.{_+_, _-_, _≤_, _^_}
+use mathlib.Core.Bool.{Bool, true, false, _||_}
+use Prim.Native.Nat.{ℕ, _+_, _-_, _≤_, _<_, _^_}
 use native.Mathlib.Omega.{arith}
 use lib.IntN.{pos, _-ℤ_}
 use mir.Syntax.{w64}
 use mir.Val.{toZ}
 use mir.ValLaws.{toZ-ofZ, toZ-pos}
 use Rattle.dsp_types.specs.Samples.{silence}
-use Rattle.demodulator.specs.Receiver.{Receiver, processSample}
-use Rattle.demodulator.specs.Calls.{feedZeros}
+use Rattle.demodulator.specs.Receiver.{Receiver, processSample, feedZeros}
+use Rattle.demodulator.specs.Windows.{handsOver, windowOf, zerosWindows}
 use Rattle.demodulator.specs.View.{receiverOf}
-use Rattle.demodulator.specs.Bounds.{Timed, Counter}
+use Rattle.demodulator.specs.Bounds.{Timed, Counter, Caught}
 use Rattle.demodulator.proofs.Signed.{read, read-within, within-pos, counter-within}
-use Rattle.demodulator.proofs.Samples.{one-zero, counter-before, no-zeros}
+use Rattle.demodulator.proofs.Samples.{one-zero, counter-before}
+use Rattle.demodulator.proofs.Handing.{one-zero-hands}
 use Rattle.demodulator.proofs.Steps.{sample-timed, timed-longer}
 use Rattle.demodulator.proofs.State.process_zeros.Statement.{statement}
 use Rattle.demodulator.proofs.State.process_zeros.Tie as tie
@@ -20,8 +22,9 @@ use Rattle.demodulator.proofs.State.process_zeros.Tie as tie
 abbrev Inv-loop : tie.InvT-loop
 Inv-loop re₀ im₀ abs₀ count counter d₀ left₀ re im abs d left =
     (left ≤ count)
-    × Timed (1 + (count - left)) (receiverOf d re im abs)
-    × (feedZeros left (receiverOf d re im abs) (toZ w64 counter) ≡ feedZeros count (receiverOf d₀ re₀ im₀ abs₀) (toZ w64 counter))
+    × Timed (1021 - left) (receiverOf d re im abs)
+    × (feedZeros count (receiverOf d₀ re₀ im₀ abs₀) (toZ w64 counter) ≡ feedZeros left (receiverOf d re im abs) (toZ w64 counter))
+    × (handsOver (zerosWindows count (receiverOf d₀ re₀ im₀ abs₀) (toZ w64 counter)) ≡ handsOver (zerosWindows left (receiverOf d re im abs) (toZ w64 counter)))
 
 abbrev μ-loop : tie.MeasureT-loop
 μ-loop re₀ im₀ abs₀ count counter d₀ left₀ re im abs d left = left
@@ -29,71 +32,125 @@ abbrev μ-loop : tie.MeasureT-loop
 abbrev turn : tie.After-process-sample-arg3 Inv-loop μ-loop → tie.At-loop Inv-loop μ-loop
 turn c = c .before .before .before .before
 
-abbrev start : tie.After-process-sample-arg3 Inv-loop μ-loop → tie.Start Inv-loop μ-loop
-start c = turn c .before
+abbrev start : tie.At-loop Inv-loop μ-loop → tie.Start Inv-loop μ-loop
+start t = t .before
 
--- the receiver at this turn
+-- the receiver as it was given, and at this turn
+abbrev given : tie.At-loop Inv-loop μ-loop → Receiver
+given t = let a = start t .args in receiverOf (a .self) (a .re .now) (a .im .now) (a .abs .now)
+
 abbrev receiver : tie.At-loop Inv-loop μ-loop → Receiver
-receiver c = receiverOf (c .loop .d) (c .loop .re) (c .loop .im) (c .loop .abs)
+receiver t = receiverOf (t .loop .d) (t .loop .re) (t .loop .im) (t .loop .abs)
 
 loop-holds : tie.Need-loop-holds Inv-loop μ-loop
-loop-holds c = (omega arith, timed-longer (1 + (c .args .count - c .args .count)) (omega arith) (c .pre .0), refl)
+loop-holds c = (omega arith, c .pre .timed, refl, refl)
 
 cast-minus : tie.Need-cast-minus Inv-loop μ-loop
-cast-minus c = record { sfits = omega (arith, start c .pre .2) }
+cast-minus c = record { sfits = omega (arith, start (turn c) .pre .most) }
 
 minus-requires : tie.Need-minus-requires Inv-loop μ-loop
 minus-requires c κs =
-    let s = start c in
-    rw (read-within (counter-within (s .pre .1)), toZ-pos w64 (turn c .loop .left) (omega (arith, s .pre .2))) (counter-within (s .pre .1), within-pos (2 ^ 61) (omega (arith, s .pre .2)))
+    let p = start (turn c) .pre in
+    rw (read-within (counter-within (p .counter)), toZ-pos w64 (turn c .loop .left) (omega (arith, p .most))) (counter-within (p .counter), within-pos (2 ^ 61) (omega (arith, p .most)))
 
 -- the counter of this zero
-under : (c : tie.After-minus Inv-loop μ-loop) → c .minus .result ≡ start (c .before) .args .counter -ℤ pos (turn (c .before) .loop .left)
+under : (c : tie.After-minus Inv-loop μ-loop) → let t = turn (c .before) in c .minus .result ≡ start t .args .counter -ℤ pos (t .loop .left)
 under c =
-    let s = start (c .before) in
-    rw (c .minus .ensures, read-within (counter-within (s .pre .1)), toZ-pos w64 (turn (c .before) .loop .left) (omega (arith, s .pre .2)))
+    let t = turn (c .before) in
+    let p = start t .pre in
+    rw (c .minus .ensures, read-within (counter-within (p .counter)), toZ-pos w64 (t .loop .left) (omega (arith, p .most)))
 
 -- that it is one that is not refused
-counts : (c : tie.After-minus Inv-loop μ-loop) → Counter (start (c .before) .args .counter -ℤ pos (turn (c .before) .loop .left))
+counts : (c : tie.After-minus Inv-loop μ-loop) → let t = turn (c .before) in Counter (start t .args .counter -ℤ pos (t .loop .left))
 counts c =
-    let s = start (c .before) in
-    counter-before (s .args .counter) (turn (c .before) .loop .left) (omega (arith, s .pre .3)) (s .pre .1)
+    let t = turn (c .before) in
+    counter-before (start t .args .counter) (t .loop .left) (omega (arith, start t .pre .above-zero)) (start t .pre .counter)
 
 process-sample-requires : tie.Need-process-sample-requires Inv-loop μ-loop
 process-sample-requires c κs =
-    let s = start (c .before) in
-    rw (read _ (c .minus .ok), under c) (timed-longer 2000 (omega (arith, s .pre .2)) (turn (c .before) .loop .inv .1), counts c)
+    let t = turn (c .before) in
+    rw (read _ (c .minus .ok), under c) (timed-longer 2000 (omega arith) (t .loop .inv .1), counts c)
+
+-- the receiver after this zero
+abbrev after : tie.After-process-sample Inv-loop μ-loop → Receiver
+after c = let l = c .process-sample .last in receiverOf (c .process-sample .result .state) (l .1 .0) (l .1 .1 .0) (l .1 .1 .1 .0)
+
+module _ (c : tie.After-process-sample Inv-loop μ-loop) where
+  abbrev now : tie.At-loop Inv-loop μ-loop
+  now = turn (c .before .before)
+
+  abbrev rest : ℕ
+  rest = now .loop .left - 1
+
+  taken : 0 < now .loop .left
+  taken = c .before .before .before .before .before .loop-test .taken
+
+  after-is : after c ≡ processSample (receiver now) silence (start now .args .counter -ℤ pos (now .loop .left))
+  after-is = c .process-sample .ensures .1 ∙ ap (processSample (receiver now) silence) (read _ (c .before .minus .ok) ∙ under (c .before))
+
+  hands-is : c .process-sample .result .handed ≡ handsOver (windowOf (receiver now) silence (start now .args .counter -ℤ pos (now .loop .left)))
+  hands-is = c .process-sample .ensures .0 ∙ ap (λ z. handsOver (windowOf (receiver now) silence z)) (read _ (c .before .minus .ok) ∙ under (c .before))
+
+  few : now .loop .left ≤ start now .args .count
+  few = now .loop .inv .0
+
+  timed : Timed (1021 - rest) (after c)
+  timed =
+      rw after-is
+      (timed-longer (1021 - rest) (omega (arith, taken, few, start now .pre .most)) (sample-timed (1021 - now .loop .left) (receiver now) silence (start now .args .counter -ℤ pos (now .loop .left)) (omega arith) (now .loop .inv .1) (counts (c .before))))
+
+  fed : feedZeros (start now .args .count) (given now) (start now .args .counter) ≡ feedZeros rest (after c) (start now .args .counter)
+  fed =
+      let z = toZ-ofZ w64 (start now .args .counter) (start now .fits .counter) in
+      (rw z at (now .loop .inv .2)) ∙ one-zero (now .loop .left) (receiver now) (start now .args .counter) taken ∙ rw after-is
+
+  handing : handsOver (zerosWindows (start now .args .count) (given now) (start now .args .counter))
+      ≡ (c .process-sample .result .handed || handsOver (zerosWindows rest (after c) (start now .args .counter)))
+  handing =
+      let z = toZ-ofZ w64 (start now .args .counter) (start now .fits .counter) in
+      (rw z at (now .loop .inv .3)) ∙ one-zero-hands (now .loop .left) (receiver now) (start now .args .counter) taken ∙ rw (after-is, hands-is)
 
 sub-left : tie.Need-sub-left Inv-loop μ-loop
-sub-left c = omega arith
-
-loop-less : tie.Need-loop-less Inv-loop μ-loop
-loop-less c = omega arith
-
-loop-again : tie.Need-loop-again Inv-loop μ-loop
-loop-again c =
-    let m = c .before in
-    let t = turn (m .before) in
-    let l = t .loop in
-    let s = t .before in
-    let r = receiver t in
-    let e : receiverOf (c .process-sample .result) (c .process-sample .last .1 .0) (c .process-sample .last .1 .1 .0) (c .process-sample .last .1 .1 .1 .0) ≡ processSample r silence (s .args .counter -ℤ pos (l .left)) =
-    c .process-sample .ensures ∙ ap (processSample r silence) (read _ (m .minus .ok) ∙ under m) in
-    let z = toZ-ofZ w64 (s .args .counter) (s .fits .counter) in
-    let h = m .before .before .before .before .loop-test .taken in
-    let u = sample-timed (1 + (s .args .count - l .left)) r silence (s .args .counter -ℤ pos (l .left)) (omega (arith, s .pre .2)) (l .inv .1) (counts m) in (
-      omega arith,
-      rw e (timed-longer (1 + (s .args .count - (l .left - 1))) (omega (arith, h, l .inv .0)) u),
-      rw (e, z) (sym (one-zero (l .left) r (s .args .counter) h) ∙ (rw z at (l .inv .2))),
-    )
+sub-left c = omega (arith, taken (c .before))
 
 returns : tie.Need-returns Inv-loop μ-loop
 returns c =
+    let p = c .before .before in
+    record {
+      less = λ h. omega (arith, taken p, few p);
+      all = λ e. absurd (let z : _≡_ {A = ℕ} 0 1 = cc in omega arith);
+      timed = timed p;
+      receiver = fed p;
+      windows = handing p ∙ ap (λ (b : Bool). b || handsOver (zerosWindows (rest p) (after p) (start (now p) .args .counter))) (c .if1 .taken);
+    }
+
+loop-less : tie.Need-loop-less Inv-loop μ-loop
+loop-less c = omega (arith, taken (c .before .before))
+
+loop-again : tie.Need-loop-again Inv-loop μ-loop
+loop-again c =
+    let p = c .before .before in
+    let s = start (now p) in
+    let z = toZ-ofZ w64 (s .args .counter) (s .fits .counter) in (
+      omega (arith, few p),
+      timed p,
+      rw z (fed p),
+      rw z (handing p ∙ ap (λ (b : Bool). b || handsOver (zerosWindows (rest p) (after p) (s .args .counter))) (c .if1 .left)),
+    )
+
+returns-2 : tie.Need-returns-2 Inv-loop μ-loop
+returns-2 c =
     let t = c .before in
     let l = t .loop in
-    let s = t .before in
+    let s = start t in
     let z = toZ-ofZ w64 (s .args .counter) (s .fits .counter) in
-    no-zeros (l .left) (receiver t) (s .args .counter) (omega arith) ∙ (rw z at (l .inv .2))
+    record {
+      less = λ h. omega arith;
+      all = λ e. omega arith;
+      timed = l .inv .1;
+      receiver = rw z at (l .inv .2);
+      windows = rw z at (l .inv .3);
+    }
 
 pub process-zeros-spec : {M : Type 1} → statement M
 process-zeros-spec =
@@ -106,6 +163,7 @@ process-zeros-spec =
     minus-requires
     process-sample-requires
     sub-left
+    returns
     loop-less
     loop-again
-    returns)
+    returns-2)

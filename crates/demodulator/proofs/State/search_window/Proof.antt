@@ -7,11 +7,10 @@ use lib.ListN.{take, length}
 use lib.Seq.{take-all}
 use lib.IntN.{pos, _+ℤ_, _-ℤ_}
 use Rattle.burst_finder.specs.Search.{findSync, below}
-use Rattle.burst_finder.specs.Slots.{notFound}
 use Rattle.demodulator.specs.declared.State.{State}
 use Rattle.demodulator.specs.declared.window.Window.{Window}
-use Rattle.demodulator.specs.Receiver.{Receiver, withClock}
-use Rattle.demodulator.specs.View.{receiverOf, modeOf, Finds, Reads, IsWindow}
+use Rattle.demodulator.specs.Receiver.{Receiver, withMode, withClock, withLock, withSlot, setSlot}
+use Rattle.demodulator.specs.View.{receiverOf, modeOf, Reads, IsWindow}
 use Rattle.demodulator.specs.declared.Mode.the-variants.{Dl}
 use Rattle.demodulator.proofs.Signed.{read, read-within, wider}
 use Rattle.demodulator.proofs.Times.{found-within}
@@ -46,20 +45,13 @@ searched c =
 place : (c : tie.After-find-sync) → c .find-sync .result .dist ≤ 1 → c .find-sync .result .pos ≤ 256
 place c = found-place (receiver c) (window c) (window-read c) (c .find-sync .result) (searched c)
 
-emptied : (c : tie.After-finder) → Finds (c .finder .result) (take 510 (window (c .before .before) .bits)) notFound
-emptied c = rw (c .before .not-found .ensures) at (c .finder .ensures)
-
--- when the slot of the burst began
-begins : (c : tie.After-found-time)
-    → let a = c .before .before .before .before .before .before in toZ w64 (ofZ w64 (c .found-time .result)) ≡ self a .«slot_ready_time» .0 -ℤ pos 2034 +ℤ pos (a .find-sync .result .pos * 2)
+-- the reference time
+begins : (c : tie.After-found-time) → let a = c .before .before .before .before in
+    toZ w64 (ofZ w64 (c .found-time .result)) ≡ self a .«slot_ready_time» .0 -ℤ pos 2034 +ℤ pos (a .find-sync .result .pos * 2)
 unfolding receiverOf
 begins c =
-    let a = c .before .before .before .before .before .before in
+    let a = c .before .before .before .before in
     rw (read _ (c .found-time .ok), c .found-time .ensures, read-within (wider (2 ^ 61) (lit≤ tt) (start a .pre .0 .ready)))
-
--- a receiver as it was, but locked
-abbrev locked : Receiver → Receiver
-locked r = record { mode = Dl; clock = r .clock; lock = r .lock; slot = r .slot; next = r .next; signal = r .signal }
 
 read-window-requires : tie.Need-read-window-requires
 read-window-requires c κs = IsWindow.full
@@ -70,25 +62,26 @@ slice-aggregate-find-sync c = search needs
 find-sync-requires : tie.Need-find-sync-requires
 find-sync-requires c κs = search needs
 
-not-found-requires : tie.Need-not-found-requires
-not-found-requires c κs = search needs
-
-finder-requires : tie.Need-finder-requires
-finder-requires c κs = search needs
+emptied-requires : tie.Need-emptied-requires
+emptied-requires c κs = search needs
 
 returns : tie.Need-returns
 unfolding receiverOf
 returns c =
-    let f = c .before .before in
-    let a = f .before .before in
-    search-missed (receiver a) (window a) (window-read a) (a .find-sync .result) (searched a) (f .finder .result) (emptied f) (c .if1 .taken)
+    let a = c .before .before .before in
+    let s = start a .args in
+    c .emptied .ensures (s .re .now) (s .im .now) (s .abs .now)
+    ∙ search-missed (receiver a) (window a) (window-read a) (a .find-sync .result) (searched a) (c .before .if1 .taken)
 
 found-time-requires : tie.Need-found-time-requires
 unfolding receiverOf
 found-time-requires c κs =
-    let a = c .before .before .before .before .before in
+    let a = c .before .before .before in
     let h = start a .pre .0 .ready in
     rw (read-within (wider (2 ^ 61) (lit≤ tt) h)) (h, place a (c .before .if1 .left))
+
+emptied-requires-2 : tie.Need-emptied-requires-2
+emptied-requires-2 c κs = search needs
 
 averaged-requires : tie.Need-averaged-requires
 averaged-requires c κs = search needs
@@ -96,31 +89,21 @@ averaged-requires c κs = search needs
 set-slot-requires : tie.Need-set-slot-requires
 unfolding receiverOf
 set-slot-requires c κs =
-    let a = c .before .before .before .before .before .before .before in
-    rw (begins (c .before)) (wider (2 ^ 40) (lit≤ tt) (found-within (self a .«slot_ready_time» .0) (a .find-sync .result .pos) (start a .pre .0 .ready) (place a (c .before .before .before .if1 .left))), lit< tt)
+    let f = c .before .before in
+    let a = f .before .before .before .before in
+    rw (begins f) (wider (2 ^ 40) (lit≤ tt) (found-within (self a .«slot_ready_time» .0) (a .find-sync .result .pos) (start a .pre .0 .ready) (place a (f .before .before .if1 .left))), lit< tt)
 
 returns-2 : tie.Need-returns-2
-unfolding receiverOf withClock modeOf
+unfolding receiverOf withMode withClock withLock withSlot modeOf
 returns-2 c =
-    let f = c .before .before .before .before .before .before in
-    let a = f .before .before in
+    let f = c .before .before .before in
+    let a = f .before .before .before .before in
     let s = start a .args in
-    ap locked (c .set-slot .ensures (s .re .now) (s .im .now) (s .abs .now))
-    ∙ search-found
-    (receiver a)
-    (window a)
-    (window-read a)
-    (a .find-sync .result)
-    (searched a)
-    (f .finder .result)
-    (emptied f)
-    (modeOf (self a .mode))
-    _
-    (c .before .averaged .result)
-    (c .before .before .before .before .if1 .left)
-    (mode-search (self a .mode) (start a .pre .1))
-    (begins (c .before .before))
-    (c .before .averaged .ensures)
+    let e = c .before .averaged .result in
+    let z = toZ w64 (ofZ w64 (f .found-time .result)) in
+    ap (λ (r : Receiver). withMode r Dl) (c .set-slot .ensures (s .re .now) (s .im .now) (s .abs .now))
+    ∙ ap (λ (r : Receiver). withMode (withClock (withLock r (record { timingError = e; misses = 0 })) (setSlot (r .mode) z 283115519)) Dl) (c .before .before .emptied2 .ensures (s .re .now) (s .im .now) (s .abs .now))
+    ∙ search-found (receiver a) (window a) (window-read a) (a .find-sync .result) (searched a) (modeOf (self a .mode)) z e (f .before .before .if1 .left) (mode-search (self a .mode) (start a .pre .1)) (begins f) (c .before .averaged .ensures)
 
 pub search-window-spec : {M : Type 1} → statement M
 search-window-spec =
@@ -129,10 +112,10 @@ search-window-spec =
     read-window-requires
     slice-aggregate-find-sync
     find-sync-requires
-    not-found-requires
-    finder-requires
+    emptied-requires
     returns
     found-time-requires
+    emptied-requires-2
     averaged-requires
     set-slot-requires
     returns-2)

@@ -9,7 +9,7 @@ use mir.Syntax.{w64}
 use mir.Val.{toZ, ofZ}
 use Rattle.timing.specs.Tracking.{late, early}
 use Rattle.demodulator.specs.declared.State.{State}
-use Rattle.demodulator.specs.Receiver.{Receiver, trackedLater, trackedSooner}
+use Rattle.demodulator.specs.Receiver.{Receiver, withClock, withLock, trackedLater, trackedSooner}
 use Rattle.demodulator.specs.View.{receiverOf}
 use Rattle.demodulator.proofs.Signed.{read, read-within, wider}
 use Rattle.demodulator.specs.Bounds.{Within}
@@ -20,7 +20,7 @@ use Rattle.demodulator.proofs.State.track.Tie as tie
 
 -- after the first test
 after-first : (c : tie.Joined1) (re im abs : List Float) → receiverOf (c .if1 .d) re im abs ≡ trackedLater (receiverOf (c .before .before .args .self) re im abs)
-unfolding receiverOf late
+unfolding receiverOf late withClock withLock
 after-first c re im abs =
     let s = c .before .before .args .self in
     let h = wider (2 ^ 61) (lit≤ tt) (c .before .before .pre .reference) in
@@ -48,7 +48,7 @@ minus-requires c κs =
     rw (read-within h) (h, record { high = lit≤ tt; low = lit≤ tt })
 
 returns : tie.Need-returns
-unfolding receiverOf early
+unfolding receiverOf early withClock withLock
 returns c = λ re im abs.
     let j = c .before .before .before .before .before in
     shifted-sooner (receiverOf (j .if1 .d) re im abs) (toZ w64 (ofZ w64 (c .before .minus .result))) (c .before .before .before .if2 .taken) (rw (read _ (c .before .minus .ok), c .before .minus .ensures, read-within (reference-within j)))

@@ -1,19 +1,15 @@
 -- `State::valid` meets its contract: each number by its own function.
 use mathlib.Core.Path.{_∙_}
+use Rattle.demodulator.specs.Receiver.{withClock, withLock, withNext}
+use Rattle.demodulator.specs.View.{receiverOf}
 use mir.Syntax.{w64}
 use mir.Val.{SFits}
 use mir.ValLaws.{toZ-ofZ}
-use Rattle.demodulator.proofs.Doors.{valid-view}
+use Rattle.demodulator.proofs.Doors.{valid-as}
 use Rattle.demodulator.proofs.Signed.{read}
 use borrow.Author.Needs.{needs}
 use Rattle.demodulator.proofs.State.valid.Statement.{statement}
 use Rattle.demodulator.proofs.State.valid.Tie as tie
-use Rattle.demodulator.proofs.State.valid.Reads as reads
-use Rattle.demodulator.proofs.State.valid.Lts as lts
-use Rattle.demodulator.proofs.process.at_most_100.Reads as at-most-100-reads
-use Rattle.demodulator.proofs.process.valid_count.Reads as valid-count-reads
-use Rattle.demodulator.proofs.process.valid_time.Reads as valid-time-reads
-use Rattle.dsp_types.proofs.TdmaTime.to_int.Reads as to-int-reads
 
 -- what the struct's times are, told where nothing else is known yet
 reference-fits : (c : tie.After-struct-told) → SFits w64 (c .before .args .self .«reference_time» .0)
@@ -41,6 +37,7 @@ at-most-100-requires : tie.Need-at-most-100-requires
 at-most-100-requires c κs = search needs
 
 returns : tie.Need-returns
+unfolding receiverOf withClock withLock withNext
 returns c =
     let r0 = c .before .before .before .before .before .before in
     let r1 = c .before .before .before .before in
@@ -48,7 +45,7 @@ returns c =
     let early = r0 .before in
     let s = early .before .args .self in
     λ re im abs.
-    valid-view s re im abs _ _ _ _ _
+    valid-as (receiverOf s re im abs) _ _ _ _ _
     (read _ (r0 .valid-time .ok) ∙ rw (toZ-ofZ w64 (s .«reference_time» .0) (reference-fits early)) at (r0 .valid-time .ensures))
     (read _ (r1 .valid-time2 .ok) ∙ rw (toZ-ofZ w64 (s .«slot_ready_time» .0) (ready-fits early)) at (r1 .valid-time2 .ensures))
     (read _ (r2 .valid-count .ok) ∙ rw (toZ-ofZ w64 (s .«next_input_sample_count» .0) (next-fits early)) at (r2 .valid-count .ensures))

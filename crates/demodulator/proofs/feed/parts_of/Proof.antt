@@ -10,7 +10,7 @@ use Rattle.demodulator.proofs.feed.parts_of.Tie as tie
 
 abbrev Inv-loop : tie.InvT-loop
 Inv-loop samples at most re₀ im₀ room len₀ re im len =
-    (len ≤ room) × (room ≤ most) × (room ≤ 1024) × (at + room ≤ length samples / 2) × (length samples < 2 ^ 64) × (length re ≡ 1024) × (length im ≡ 1024) × Split samples re im at len
+    (len ≤ room) × (room ≤ most) × (room ≤ 512) × (at + room ≤ length samples / 2) × (length samples < 2 ^ 64) × (length re ≡ 512) × (length im ≡ 512) × Split samples re im at len
 
 abbrev μ-loop : tie.MeasureT-loop
 μ-loop samples at most re₀ im₀ room len₀ re im len = room - len

@@ -9,7 +9,7 @@ use mir.ValLaws.{toZ-ofZ}
 use borrow.Author.Tests.{ltb-true, leb-true}
 use Rattle.dsp_types.specs.Ints.{eqZ}
 use Rattle.dsp_types.specs.Times.{slots}
-use Rattle.demodulator.specs.Calls.{validTime}
+use Rattle.demodulator.specs.Valid.{validTime}
 use Rattle.demodulator.specs.Bounds.{Within}
 use Rattle.demodulator.proofs.Signed.{read, wider, within-pos, within-sum}
 use Rattle.demodulator.proofs.Doors.{valid-within}

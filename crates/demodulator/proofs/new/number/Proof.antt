@@ -1,5 +1,5 @@
 -- `new::number` meets its contract, mode by mode.
-use Rattle.demodulator.specs.View.{modeOf}
+use Rattle.demodulator.specs.View.{modeNumber}
 use borrow.Author.Needs.{needs}
 use Rattle.demodulator.proofs.new.number.Statement.{statement}
 use Rattle.demodulator.proofs.new.number.Tie as tie
@@ -17,19 +17,19 @@ enum-told-4 : tie.Need-enum-told-4
 enum-told-4 c = search needs
 
 returns : tie.Need-returns
-unfolding modeOf
+unfolding modeNumber
 returns c = search needs
 
 returns-2 : tie.Need-returns-2
-unfolding modeOf
+unfolding modeNumber
 returns-2 c = search needs
 
 returns-3 : tie.Need-returns-3
-unfolding modeOf
+unfolding modeNumber
 returns-3 c = search needs
 
 returns-4 : tie.Need-returns-4
-unfolding modeOf
+unfolding modeNumber
 returns-4 c = search needs
 
 pub number-spec : {M : Type 1} → statement M

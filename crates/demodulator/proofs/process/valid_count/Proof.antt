@@ -4,7 +4,7 @@ use lib.IntN.{pos}
 use lib.Signed.{ltZ}
 use mir.Syntax.{w64}
 use mir.ValLaws.{toZ-ofZ}
-use Rattle.demodulator.specs.Calls.{validCount}
+use Rattle.demodulator.specs.Valid.{validCount}
 use borrow.Author.Needs.{needs}
 use Rattle.demodulator.proofs.process.valid_count.Statement.{statement}
 use Rattle.demodulator.proofs.process.valid_count.Tie as tie

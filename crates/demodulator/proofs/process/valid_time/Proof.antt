@@ -6,7 +6,7 @@ use lib.Dec.{leb}
 use borrow.Author.Tests.{le-leb, lt-leb}
 use mir.Syntax.{w64}
 use mir.ValLaws.{toZ-ofZ}
-use Rattle.demodulator.specs.Calls.{validTime}
+use Rattle.demodulator.specs.Valid.{validTime}
 use borrow.Author.Needs.{needs}
 use Rattle.demodulator.proofs.process.valid_time.Statement.{statement}
 use Rattle.demodulator.proofs.process.valid_time.Tie as tie

@@ -1,0 +1,353 @@
+-- `State::feed` meets its contract. The loop's invariant: what is left, fed from here, ends where all of it would.
+use mathlib.Core.Path.{_≡_, refl, sym, ap, _∙_}
+use Prim.Native.Nat.{_+_, _-_, _*_, _/_, _<_, _≤_, _^_}
+use native.Mathlib.Omega.{arith}
+use lib.ListN.{length, take, drop}
+use lib.Seq.{length-take-le}
+use mir.Syntax.{w64}
+use mir.Val.{toZ, ofZ, SFits}
+use mir.ValLaws.{toZ-ofZ, toZ-pos}
+use Rattle.dsp_types.specs.Ints.{up, dn}
+use Rattle.dsp_types.specs.declared.ComplexSample.{ComplexSample}
+use Rattle.demodulator.specs.Receiver.{Receiver, withClock, withLock, withNext}
+use Rattle.demodulator.specs.Quiet.{Quiet}
+use Rattle.fir.specs.Fir.{samplesOf}
+use Rattle.demodulator.proofs.Rows.{samples-count}
+use Rattle.demodulator.specs.Bounds.{Within}
+use Rattle.demodulator.proofs.Keeping.{quiet-fewer, kept-block}
+use mathlib.Core.List.{List, _∷_}
+use lib.Dec.{lit≤}
+use lib.IntN.{ℤ, pos}
+use lib.Ieee.{Float}
+use Rattle.demodulator.specs.Valid.{validCount, valid}
+use Rattle.demodulator.specs.Calls.{sampleRefusal}
+use Rattle.demodulator.proofs.Signed.{read, within-pos, counter-within}
+use Rattle.demodulator.proofs.Doors.{valid-timed, valid-next, Heard, not-refused}
+use Rattle.demodulator.specs.Feed.{interleaved, feedOf}
+use Rattle.demodulator.specs.View.{receiverOf, Untouched}
+use Rattle.demodulator.proofs.Feeding.{ahead, none-yet, tell, part, next-sample, no-sample, at-end, at-refused, at-slot, at-next}
+use borrow.Author.Needs.{needs}
+use Rattle.demodulator.proofs.State.feed.Statement.{statement}
+use Rattle.demodulator.proofs.State.feed.Tie as tie
+
+abbrev Inv-loop : tie.InvT-loop
+Inv-loop re₀ im₀ abs₀ samples s₀ x₀ y₀ counter₀ taken₀ re im abs s x y counter taken =
+    (taken ≤ length samples / 2)
+    × (length samples * 4 < 2 ^ 63)
+    × (length x ≡ 512)
+    × (length y ≡ 512)
+    × (feedOf (receiverOf s₀ re₀ im₀ abs₀) (interleaved samples) (toZ w64 counter₀) ≡ ahead taken (feedOf (receiverOf s re im abs) (interleaved (drop (2 * taken) samples)) (toZ w64 counter)))
+    × (taken ≡ 0 → Untouched s₀ s re₀ re im₀ im abs₀ abs)
+
+abbrev μ-loop : tie.MeasureT-loop
+μ-loop re₀ im₀ abs₀ samples s₀ x₀ y₀ counter₀ taken₀ re im abs s x y counter taken = length samples / 2 - taken
+
+-- before the loop, in it, and at its next sample
+abbrev first : tie.At-loop Inv-loop μ-loop → tie.After-struct-told Inv-loop μ-loop
+first t = t .before
+
+abbrev start : tie.At-loop Inv-loop μ-loop → tie.Start Inv-loop μ-loop
+start t = first t .before .before
+
+-- the receiver as it was given
+abbrev given : tie.Start Inv-loop μ-loop → Receiver
+given s = receiverOf (s .args .self) (s .args .re .now) (s .args .im .now) (s .args .abs .now)
+
+abbrev turn : tie.After-parts-of Inv-loop μ-loop → tie.At-loop Inv-loop μ-loop
+turn c = c .before .before .before .before .before
+
+abbrev receiver : tie.At-loop Inv-loop μ-loop → Receiver
+receiver t = receiverOf (t .loop .s) (t .loop .re) (t .loop .im) (t .loop .abs)
+
+abbrev parted : tie.After-sample-refusal Inv-loop μ-loop → tie.After-parts-of Inv-loop μ-loop
+parted c = c .before .before .before .before .before .before .before .before
+
+-- the next sample
+abbrev sample : tie.At-loop Inv-loop μ-loop → ComplexSample
+sample t = part (start t .args .samples .now) (t .loop .taken)
+
+-- the first counter, told where nothing else is known yet
+first-fits : (c : tie.After-struct-told Inv-loop μ-loop) → SFits w64 (c .before .before .args .first .0)
+first-fits c = search needs
+
+-- the counter after the last accepted one, likewise
+next-fits : (c : tie.After-struct-told2 Inv-loop μ-loop) → SFits w64 (turn (c .before .before .before .before .before .before) .loop .s .«next_input_sample_count» .0)
+next-fits c = search needs
+
+-- there is one more sample
+one-more : (c : tie.After-parts-of Inv-loop μ-loop) → let n = length (start (turn c) .args .samples .now) in (turn c .loop .taken + 1 ≤ n / 2) × (n * 4 < 2 ^ 63)
+one-more c = (omega arith, turn c .loop .inv .1)
+
+-- the loop starts with the receiver and the counter that were given
+same : (t : tie.At-loop Inv-loop μ-loop) → let a = start t .args in
+    feedOf (given (start t)) (interleaved (a .samples .now)) (toZ w64 (ofZ w64 (a .first .0))) ≡ feedOf (given (start t)) (interleaved (a .samples .now)) (a .first .0)
+same t = ap (feedOf (given (start t)) (interleaved (start t .args .samples .now))) (toZ-ofZ w64 _ (first-fits (first t)))
+
+-- what all samples come to, from the receiver as it was given
+whole : (t : tie.At-loop Inv-loop μ-loop) → let s = start t in
+    feedOf (given s) (interleaved (s .args .samples .now)) (s .args .first .0)
+    ≡ ahead (t .loop .taken) (feedOf (receiver t) (interleaved (drop (2 * t .loop .taken) (s .args .samples .now))) (toZ w64 (t .loop .counter)))
+whole t = sym (same t) ∙ t .loop .inv .4
+
+-- the sample is judged by the counter after the last accepted one, as it is read
+judged : (c : tie.After-sample-refusal Inv-loop μ-loop) → let t = turn (parted c) in
+    c .sample-refusal .result ≡ sampleRefusal (validCount (receiver t .next)) (sample t) (toZ w64 (t .loop .counter))
+unfolding receiverOf
+judged c =
+    let t = turn (parted c) in
+    let n : toZ w64 (ofZ w64 (c .before .valid-count .result)) ≡ validCount (t .loop .s .«next_input_sample_count» .0) =
+    read _ (c .before .valid-count .ok) ∙ c .before .valid-count .ensures ∙ ap validCount (toZ-ofZ w64 _ (next-fits (c .before .before))) in
+    c .sample-refusal .ensures ∙ ap (λ (z : ℤ). sampleRefusal z (sample t) (toZ w64 (t .loop .counter))) n
+
+-- the block as it stands in this turn, its next sample first
+left : (c : tie.After-sample-refusal Inv-loop μ-loop) → let t = turn (parted c) in let s = start t in
+    feedOf (given s) (interleaved (s .args .samples .now)) (s .args .first .0)
+    ≡ ahead (t .loop .taken) (feedOf (receiver t) (sample t ∷ interleaved (drop (2 * (t .loop .taken + 1)) (s .args .samples .now))) (toZ w64 (t .loop .counter)))
+left c =
+    let t = turn (parted c) in
+    rw (next-sample (start t .args .samples .now) (t .loop .taken) (omega (arith, one-more (parted c) .0))) at (whole t)
+
+-- it is not refused
+heard : (c : tie.After-valid Inv-loop μ-loop) → let t = turn (parted (c .before .before)) in Heard (validCount (receiver t .next)) (toZ w64 (t .loop .counter))
+heard c = not-refused _ _ _ (sym (judged (c .before .before)) ∙ c .before .if2 .left)
+
+-- the receiver as it is read
+valid-read : (c : tie.After-valid Inv-loop μ-loop) → let t = turn (parted (c .before .before)) in
+    receiverOf (c .valid .result) (t .loop .re) (t .loop .im) (t .loop .abs) ≡ valid (receiver t)
+valid-read c =
+    let l = turn (parted (c .before .before)) .loop in
+    c .valid .ensures (l .re) (l .im) (l .abs)
+
+-- the receiver after a sample
+abbrev after : tie.After-accept Inv-loop μ-loop → Receiver
+after c = receiverOf (c .accept .result .state) (c .accept .last .1 .0) (c .accept .last .1 .1 .0) (c .accept .last .1 .1 .1 .0)
+
+abbrev split : tie.Then1 Inv-loop μ-loop → tie.After-parts-of Inv-loop μ-loop
+split c = c .before .before .before
+
+-- the samples of a block are only kept
+quiet : (c : tie.Then1 Inv-loop μ-loop) → let t = turn (split c) in let d = receiver t in
+    Quiet (d .clock) (d .lock .misses) (d .next) (toZ w64 (t .loop .counter)) (split c .parts-of .result)
+unfolding receiverOf
+quiet c =
+    let p = split c in
+    quiet-fewer (p .parts-of .result) (p .parts-of .ensures .0 .0) (p .before .before .before .quiet-samples .ensures (omega (arith, c .if1 .taken, p .parts-of .ensures .0 .0)))
+
+len-reads : (c : tie.Then1 Inv-loop μ-loop) → toZ w64 (split c .parts-of .result) ≡ pos (split c .parts-of .result)
+len-reads c = toZ-pos w64 (split c .parts-of .result) (omega (arith, split c .parts-of .ensures .0 .1))
+
+-- the parts of the block's samples, and how many they are
+abbrev xs : tie.After-parts-of Inv-loop μ-loop → List Float
+xs c = take (c .parts-of .result) (c .parts-of .last .1 .1 .1 .0)
+
+abbrev ys : tie.After-parts-of Inv-loop μ-loop → List Float
+ys c = take (c .parts-of .result) (c .parts-of .last .1 .1 .1 .1 .0)
+
+xs-long : (c : tie.After-parts-of Inv-loop μ-loop) → length (xs c) ≡ c .parts-of .result
+xs-long c = length-take-le (c .parts-of .result) (c .parts-of .last .1 .1 .1 .0) (omega (arith, c .parts-of .ensures .0 .1, c .parts-of .ensures .1 .1 .1 .0))
+
+ys-long : (c : tie.After-parts-of Inv-loop μ-loop) → length (ys c) ≡ c .parts-of .result
+ys-long c = length-take-le (c .parts-of .result) (c .parts-of .last .1 .1 .1 .1 .0) (omega (arith, c .parts-of .ensures .0 .1, c .parts-of .ensures .1 .1 .1 .1))
+
+loop-holds : tie.Need-loop-holds Inv-loop μ-loop
+loop-holds c = (omega arith, search needs, search needs, search needs, none-yet _ _ _, λ _. record { state = refl; past-re = refl; past-im = refl; past-abs = refl })
+
+quiet-samples-requires : tie.Need-quiet-samples-requires Inv-loop μ-loop
+quiet-samples-requires c κs = search needs
+
+slice-aggregate-parts-of : tie.Need-slice-aggregate-parts-of Inv-loop μ-loop
+slice-aggregate-parts-of c = search needs
+
+slice-aggregate-parts-of-2 : tie.Need-slice-aggregate-parts-of-2 Inv-loop μ-loop
+slice-aggregate-parts-of-2 c = search needs
+
+parts-of-requires : tie.Need-parts-of-requires Inv-loop μ-loop
+parts-of-requires c κs = search needs
+
+cast-plus : tie.Need-cast-plus Inv-loop μ-loop
+cast-plus c = search needs
+
+plus-requires : tie.Need-plus-requires Inv-loop μ-loop
+plus-requires c κs =
+    let q = quiet c in
+    rw (len-reads c) (counter-low (toZ w64 (turn (split c) .loop .counter)) (q .low) (omega (arith, q .high)), within-pos (2 ^ 61) (omega (arith, split c .parts-of .ensures .0 .1)))
+  where
+    counter-low : (z : ℤ) → dn z ≤ 0 → up z ≤ 2 ^ 37 → Within (2 ^ 61) z
+    counter-low z l h = record { high = omega (arith, h); low = omega (arith, l) }
+
+array-share-prefix-x : tie.Need-array-share-prefix-x Inv-loop μ-loop
+array-share-prefix-x c = search needs
+
+slice-aggregate-keep-all : tie.Need-slice-aggregate-keep-all Inv-loop μ-loop
+slice-aggregate-keep-all c = sym (xs-long (split (c .before .before .before .before .before)))
+
+array-share-prefix-y : tie.Need-array-share-prefix-y Inv-loop μ-loop
+array-share-prefix-y c = search needs
+
+slice-aggregate-keep-all-2 : tie.Need-slice-aggregate-keep-all-2 Inv-loop μ-loop
+slice-aggregate-keep-all-2 c = sym (ys-long (split (c .before .before .before .before .before .before)))
+
+keep-all-requires : tie.Need-keep-all-requires Inv-loop μ-loop
+keep-all-requires c κs =
+    let p = split (c .before .before .before .before .before .before) in
+    (xs-long p ∙ sym (ys-long p), omega (arith, xs-long p, p .parts-of .ensures .0 .1))
+
+add-taken : tie.Need-add-taken Inv-loop μ-loop
+add-taken c =
+    let p = split (c .before .before .before .before .before .before .before) in
+    record { fits = omega (arith, p .parts-of .ensures .0 .2, one-more p .1) }
+
+loop-less : tie.Need-loop-less Inv-loop μ-loop
+loop-less c =
+    let i = c .before .before .before .before .before .before .before in
+    omega (arith, split i .parts-of .ensures .0 .2, i .if1 .taken)
+
+loop-again : tie.Need-loop-again Inv-loop μ-loop
+loop-again c =
+    let u = c .before .before .before .before .before .before in
+    let i = u .before in
+    let p = split i in
+    let t = turn p in
+    let l = t .loop in
+    let n = samples-count (p .parts-of .result) (xs p) (ys p) (xs-long p) (ys-long p) in
+    let e =
+    kept-block (samplesOf (xs p) (ys p)) (interleaved (drop (2 * (l .taken + p .parts-of .result)) (start t .args .samples .now))) _ (l .taken) (receiver t) (toZ w64 (l .counter))
+    (rw n (quiet i)) (p .parts-of .ensures .1 .0) (rw (p .parts-of .ensures .1 .1 .0) at (l .inv .4)) in
+    let f = rw n at e in
+    (p .parts-of .ensures .0 .2, l .inv .1, p .parts-of .ensures .1 .1 .1 .0, p .parts-of .ensures .1 .1 .1 .1, rw (c .keep-all .ensures, read (u .plus .result) (u .plus .ok), u .plus .ensures, len-reads i) f, λ z. absurd (omega (arith, i .if1 .taken, z)))
+
+mul-t32 : tie.Need-mul-t32 Inv-loop μ-loop
+mul-t32 c =
+    let h = one-more (c .before .before .before) in
+    search needs
+
+mul-t33 : tie.Need-mul-t33 Inv-loop μ-loop
+mul-t33 c =
+    let h = one-more (c .before .before .before) in
+    search needs
+
+shared-slice-read-t35 : tie.Need-shared-slice-read-t35 Inv-loop μ-loop
+shared-slice-read-t35 c =
+    let h = one-more (c .before .before .before .before) in
+    search needs
+
+mul-t36 : tie.Need-mul-t36 Inv-loop μ-loop
+mul-t36 c =
+    let h = one-more (c .before .before .before .before) in
+    search needs
+
+add-t37 : tie.Need-add-t37 Inv-loop μ-loop
+add-t37 c =
+    let h = one-more (c .before .before .before .before) in
+    search needs
+
+mul-t38 : tie.Need-mul-t38 Inv-loop μ-loop
+mul-t38 c =
+    let h = one-more (c .before .before .before .before) in
+    search needs
+
+shared-slice-read-t40 : tie.Need-shared-slice-read-t40 Inv-loop μ-loop
+shared-slice-read-t40 c =
+    let h = one-more (c .before .before .before .before .before) in
+    search needs
+
+valid-count-requires : tie.Need-valid-count-requires Inv-loop μ-loop
+valid-count-requires c κs = search needs
+
+sample-refusal-requires : tie.Need-sample-refusal-requires Inv-loop μ-loop
+sample-refusal-requires c κs = search needs
+
+returns : tie.Need-returns Inv-loop μ-loop
+returns c =
+    let r = c .before in
+    let t = tell _ _ (at-refused _ _ _ _ _ _ (left r) _ (judged r) (c .if2 .taken)) (refl, (refl, refl)) in
+    (t .0, (t .1 .0, (t .1 .1, turn (parted r) .loop .inv .5)))
+
+valid-requires : tie.Need-valid-requires Inv-loop μ-loop
+valid-requires c κs = search needs
+
+accept-requires : tie.Need-accept-requires Inv-loop μ-loop
+unfolding valid withClock withLock withNext
+accept-requires c κs =
+    let v = c .before .before .before in
+    let r = receiver (turn (parted (v .before .before))) in
+    let n = valid-next (r .next) in
+    rw (valid-read v) (record { timed = valid-timed r; counter = heard v .counter; next = n .within; low = n .low; later = heard v .later })
+
+plus-requires-2 : tie.Need-plus-requires-2 Inv-loop μ-loop
+plus-requires-2 c κs = (counter-within (heard (c .before .before .before .before .before) .counter), within-pos (2 ^ 61) (lit≤ tt))
+
+add-taken-2 : tie.Need-add-taken-2 Inv-loop μ-loop
+add-taken-2 c =
+    let h = one-more (parted (c .before .before .before .before .before .before .before .before)) in
+    record { fits = omega (arith, h .0, h .1) }
+
+returns-2 : tie.Need-returns-2 Inv-loop μ-loop
+returns-2 c =
+    let h = c .before .before .before in
+    let v = h .before .before .before .before in
+    let r = v .before .before in
+    let t = tell _ _
+    (at-slot _ _ _ _ _ _ (left r) (sym (judged r) ∙ v .before .if2 .left) (after h) (rw (valid-read v) at (h .accept .ensures .1)) (h .accept .result .handed) (rw (valid-read v) at (h .accept .ensures .0)) (c .if3 .taken))
+    (refl, (refl, refl)) in
+    (t .0, (t .1 .0, (t .1 .1, λ z. absurd (omega (arith, z)))))
+
+loop-less-2 : tie.Need-loop-less-2 Inv-loop μ-loop
+loop-less-2 c = omega (arith, one-more (parted (c .before .before .before .before .before .before .before .before .before)) .0)
+
+loop-again-2 : tie.Need-loop-again-2 Inv-loop μ-loop
+loop-again-2 c =
+    let p = c .before in
+    let h = p .before .before in
+    let v = h .before .before .before .before in
+    let r = v .before .before in
+    let t = turn (parted r) in
+    let e =
+    at-next _ _ _ _ _ _ (left r) (sym (judged r) ∙ v .before .if2 .left) (after h) (rw (valid-read v) at (h .accept .ensures .1)) (h .accept .result .handed) (rw (valid-read v) at (h .accept .ensures .0)) (c .if3 .left) in
+    (one-more (parted r) .0, t .loop .inv .1, parted r .parts-of .ensures .1 .1 .1 .0, parted r .parts-of .ensures .1 .1 .1 .1, same t ∙ e ∙ ap (λ (z : ℤ). ahead (t .loop .taken + 1) (feedOf (after h) (interleaved (drop (2 * (t .loop .taken + 1)) (start t .args .samples .now))) z)) (sym (read _ (p .plus2 .ok) ∙ p .plus2 .ensures)), λ z. absurd (omega (arith, z)))
+
+returns-3 : tie.Need-returns-3 Inv-loop μ-loop
+returns-3 c =
+    let t = c .before in
+    let e = tell _ _ (at-end _ _ _ _ (rw (no-sample (start t .args .samples .now) (t .loop .taken) (omega arith)) at (whole t))) (refl, (refl, refl)) in
+    (e .0, (e .1 .0, (e .1 .1, t .loop .inv .5)))
+
+pub feed-spec : {M : Type 1} → statement M
+feed-spec =
+    tie.close
+    (tie.spec
+    Inv-loop
+    μ-loop
+    loop-holds
+    quiet-samples-requires
+    slice-aggregate-parts-of
+    slice-aggregate-parts-of-2
+    parts-of-requires
+    cast-plus
+    plus-requires
+    array-share-prefix-x
+    slice-aggregate-keep-all
+    array-share-prefix-y
+    slice-aggregate-keep-all-2
+    keep-all-requires
+    add-taken
+    loop-less
+    loop-again
+    mul-t32
+    mul-t33
+    shared-slice-read-t35
+    mul-t36
+    add-t37
+    mul-t38
+    shared-slice-read-t40
+    valid-count-requires
+    sample-refusal-requires
+    returns
+    valid-requires
+    accept-requires
+    plus-requires-2
+    add-taken-2
+    returns-2
+    loop-less-2
+    loop-again-2
+    returns-3)
