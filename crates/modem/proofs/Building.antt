@@ -10,8 +10,7 @@ use Rattle.slotter.specs.declared.Burst.{Burst}
 use Rattle.slotter.specs.declared.Answer.{Answer}
 use Rattle.slotter.specs.declared.Answer.the-variants.{Built, Refused}
 use Rattle.slotter.specs.Bursts.{Told, told}
-use Rattle.demodulator.specs.Calls.{unless}
-use Rattle.modem.specs.Build.{buildRefusal, lentBurst}
+use Rattle.modem.specs.Build.{unless, buildRefusal, lentBurst}
 
 -- ---- the copy
 

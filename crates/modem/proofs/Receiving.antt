@@ -1,15 +1,15 @@
--- The receiver's calls from C: a mode's number, and a take's answer in numbers. Assumes nothing.
-use mathlib.Core.Path.{_≡_, ap}
-use Prim.Native.Nat.{ℕ, zero, suc}
-use native.Mathlib.Omega.{arith}
+-- The receiver's calls from C: a mode's number, and an answer by its number. Assumes nothing.
+use mathlib.Core.Path.{_≡_, refl}
+use Prim.Native.Nat.{ℕ}
 use borrow.Author.Tests.{ne-eqb}
 use Rattle.demodulator.specs.declared.Mode.the-variants.{Idle, DlUnsynchronized, Dl, Ul}
 use Rattle.demodulator.specs.declared.take.TakeAnswer.{TakeAnswer}
-use Rattle.demodulator.specs.declared.take.TakeAnswer.the-variants.{Slot, Refused}
-use Rattle.demodulator.specs.Receiver.{HandedSlot}
-use Rattle.demodulator.specs.Calls.{burstView, numbersOf, viewNumbers, TakeTold, takeTold, takeValues}
+use Rattle.demodulator.specs.declared.take.TakeAnswer.the-variants as TakeAnswer
+use Rattle.demodulator.specs.declared.process.Answer.{Answer}
+use Rattle.demodulator.specs.declared.process.Answer.the-variants as Answer
+use Rattle.demodulator.specs.Calls.{replyOf, takeReplyOf}
 use Rattle.demodulator.specs.View.{modeOf}
-use Rattle.modem.specs.Receive.{toldRefusal, toldSlot, toldAnswer}
+use Rattle.modem.specs.Receive.{refusalOf}
 
 -- ---- a mode's number
 
@@ -29,18 +29,15 @@ pub mode-uplink : (n : ℕ) → n ≡ 3 → Ul ≡ modeOf n
 unfolding modeOf
 mode-uplink n e = rw e
 
--- ---- a take's answer
+-- ---- answers
 
-pub take-told : (a : TakeAnswer) (n : ℕ) (h : HandedSlot) → takeValues a ≡ takeTold n h → toldAnswer a ≡ toldSlot n h
-unfolding takeValues takeTold toldAnswer toldSlot
-take-told (Slot time full first second) zero h e =
-    let t = ap (λ (t : TakeTold). t .time) e in
-    let v = ap (λ (t : TakeTold). t .views) e in
-    let a : time .0 ≡ h .time = cc t in
-    let f : viewNumbers full ≡ numbersOf (burstView 510 (h .full)) = cc v in
-    let g : viewNumbers first ≡ numbersOf (burstView 254 (h .subslot1)) = cc v in
-    let k : viewNumbers second ≡ numbersOf (burstView 254 (h .subslot2)) = cc v in
-    rw (a, f, g, k)
-take-told (Slot time full first second) (suc n) h e = absurd (omega (arith, ap (λ (t : TakeTold). t .number) e))
-take-told (Refused m) zero h e = absurd (let z : _≡_ {A = ℕ} 0 1 = cc (ap (λ (t : TakeTold). t .time) e) in omega arith)
-take-told (Refused m) (suc n) h e = ap toldRefusal (ap (λ (t : TakeTold). t .number) e)
+-- an answer whose number is not 0 is a refusal, and one whose number is 0 is none
+pub by-refusal : {A : Type 0} (a : Answer) → (refusalOf (replyOf a) ≡ 0 → ⊥) → ((n : ℕ) → a ≡ Answer.Refused n → A) → A
+unfolding refusalOf replyOf
+by-refusal Answer.Accepted h f = absurd (h refl)
+by-refusal (Answer.Refused n) h f = f n refl
+
+pub by-take-refusal : {A : Type 0} (a : TakeAnswer) → (refusalOf (takeReplyOf a) ≡ 0 → ⊥) → ((n : ℕ) → a ≡ TakeAnswer.Refused n → A) → A
+unfolding refusalOf takeReplyOf
+by-take-refusal (TakeAnswer.Slot s) h f = absurd (h refl)
+by-take-refusal (TakeAnswer.Refused n) h f = f n refl

@@ -1,24 +1,32 @@
-// The receiver: a state goes in by value, and the next one comes back.
+// The receiver: its state goes in by value and the next one comes back, and its past is lent. The header's calls on a
+// receiver in the caller's memory are these.
 use demodulator::Answer;
-use demodulator::Demodulator;
 use demodulator::Mode;
+use demodulator::RxBurst;
+use demodulator::RxSlot;
+use demodulator::State;
 use demodulator::Stop;
 use demodulator::TakeAnswer;
-use demodulator::TakenView;
+use dsp_types::ACCEPTED;
 use dsp_types::ComplexSample;
 use dsp_types::SampleCount;
+use dsp_types::TdmaTime;
 ghost use mathlib.Core.Path.{_≡_};
+ghost use mathlib.Core.List.{List, [], _∷_};
+ghost use lib.ListN.{replicate};
+ghost use lib.Ieee.{Float};
+ghost use Rattle.dsp_types.specs.Samples.{zeroF};
 ghost use Rattle.demodulator.specs.Receiver.{new};
-ghost use Rattle.demodulator.specs.Calls.{validCount, sampleRefusal, sampleOf, answerNumber, takeRefusal, viewIn, viewNumbers, taken, unless, followRefusal, followOf};
+ghost use Rattle.demodulator.specs.Calls.{sampleOutcome, takeOutcome, followOutcome, replyOf, takeReplyOf, inNumbers};
 ghost use Rattle.demodulator.specs.Feed.{interleaved, feedOf};
-ghost use Rattle.demodulator.specs.View.{modeOf, viewOf};
-ghost use Rattle.modem.specs.Receive.{handsSlot, stopRefusal, shown, noView, toldTake, toldSlot, toldAnswer};
+ghost use Rattle.demodulator.specs.View.{modeOf, modeNumber, modeFollowing, receiverOf, Untouched};
+ghost use Rattle.modem.specs.Receive.{refusalOf, slotOf, noSlot, handsSlot, stopRefusal};
 
 // 0 or the refusal's number, and the next state.
 #[repr(C)]
-pub struct TetraReceived {
+pub struct TetraAnswered {
     pub refusal: u32,
-    pub receiver: Demodulator,
+    pub state: State,
 }
 
 // How many samples were taken, whether the last of them handed a slot over, and the refusal of the next, or 0.
@@ -27,35 +35,15 @@ pub struct TetraFed {
     pub taken: usize,
     pub slot: bool,
     pub refusal: u32,
-    pub receiver: Demodulator,
+    pub state: State,
 }
 
-// What is told of a burst view: its training sequence as 01's number, its errors and its length.
-#[repr(C)]
-pub struct TetraView {
-    pub train_type: u8,
-    pub train_errs: usize,
-    pub burst_len: usize,
-}
-
-// 0 with the slot's number and its views, or the refusal's number and zeros.
+// 0 with the slot, or the refusal's number and zeros.
 #[repr(C)]
 pub struct TetraTaken {
     pub refusal: u32,
-    pub number: u32,
-    pub full: TetraView,
-    pub subslot1: TetraView,
-    pub subslot2: TetraView,
-    pub receiver: Demodulator,
-}
-
-// What a take tells: the fields of its answer beside the state.
-struct Told {
-    pub refusal: u32,
-    pub number: u32,
-    pub full: TetraView,
-    pub subslot1: TetraView,
-    pub subslot2: TetraView,
+    pub slot: RxSlot,
+    pub state: State,
 }
 
 // The mode of a number; any other than 1, 2 and 3 is Idle's.
@@ -71,11 +59,47 @@ fn mode_of(number: u32) -> Mode
 }
 
 fn answer_number(answer: Answer) -> u32
-    ensures { λ r. ⌜ r ≡ answerNumber answer ⌝ }
+    ensures { λ r. ⌜ r ≡ refusalOf (replyOf answer) ⌝ }
 {
     match answer {
-        Answer::Accepted => 0,
+        Answer::Accepted => ACCEPTED,
         Answer::Refused(number) => number,
+    }
+}
+
+fn take_number(answer: TakeAnswer) -> u32
+    ensures { λ r. ⌜ r ≡ refusalOf (takeReplyOf answer) ⌝ }
+{
+    match answer {
+        TakeAnswer::Slot(_) => ACCEPTED,
+        TakeAnswer::Refused(number) => number,
+    }
+}
+
+// A refusal's slot is all zeros.
+fn no_slot() -> RxSlot
+    ensures { λ r. ⌜ r ≡ noSlot ⌝ }
+{
+    let none = RxBurst {
+        train_type: 0,
+        train_errs: 0,
+        burst_pos: 0,
+        burst_len: 0,
+    };
+    RxSlot {
+        time: TdmaTime(0),
+        full: none,
+        subslot1: none,
+        subslot2: none,
+    }
+}
+
+fn take_slot(answer: TakeAnswer) -> RxSlot
+    ensures { λ r. ⌜ r ≡ slotOf (takeReplyOf answer) ⌝ }
+{
+    match answer {
+        TakeAnswer::Slot(slot) => slot,
+        TakeAnswer::Refused(_) => no_slot(),
     }
 }
 
@@ -93,147 +117,113 @@ fn stop_refusal(stop: Stop) -> u32
     ensures { λ r. ⌜ r ≡ stopRefusal stop ⌝ }
 {
     match stop {
-        Stop::End => 0,
-        Stop::Slot => 0,
+        Stop::End => ACCEPTED,
+        Stop::Slot => ACCEPTED,
         Stop::Refused(number) => number,
     }
 }
 
-fn told_view(view: TakenView) -> TetraView
-    ensures { λ r. ⌜ r ≡ shown (viewNumbers view) ⌝ }
-{
-    TetraView {
-        train_type: view.train_type,
-        train_errs: view.train_errs,
-        burst_len: view.burst_len,
-    }
-}
-
-fn no_view() -> TetraView
-    ensures { λ r. ⌜ r ≡ noView ⌝ }
-{
-    TetraView {
-        train_type: 0,
-        train_errs: 0,
-        burst_len: 0,
-    }
-}
-
-// A take's answer in numbers.
-fn told_answer(answer: TakeAnswer) -> Told
-    ensures { λ r. ⌜ r ≡ toldAnswer answer ⌝ }
-{
-    match answer {
-        TakeAnswer::Slot(time, full, first, second) => Told {
-            refusal: 0,
-            number: time.0,
-            full: told_view(full),
-            subslot1: told_view(first),
-            subslot2: told_view(second),
-        },
-        TakeAnswer::Refused(refusal) => {
-            let none = no_view();
-            Told {
-                refusal,
-                number: 0,
-                full: none,
-                subslot1: none,
-                subslot2: none,
-            }
-        }
-    }
-}
-
-// A new receiver: 0 Idle, 1 DlUnsynchronized, 2 Dl, 3 Ul; any other number counts as Idle.
+// The state of a new receiver, whose past is all zeros: 0 Idle, 1 DlUnsynchronized, 2 Dl, 3 Ul; any other number counts as
+// Idle.
 #[no_mangle]
-pub extern "C" fn tetra_receiver_new(mode: u32) -> Demodulator
-    ensures { λ r. ⌜ viewOf r ≡ new (modeOf mode) ⌝ }
+pub extern "C" fn tetra_state_new(mode: u32) -> State
+    ensures receiver { λ r. ⌜ receiverOf r (replicate 2048 zeroF) (replicate 2048 zeroF) (replicate 2048 zeroF) ≡ new (modeOf mode) ⌝ }
+    ensures mode { λ r. ⌜ r .mode ≡ modeNumber (modeOf mode) ⌝ }
 {
-    Demodulator::new(mode_of(mode))
+    State::new(mode_of(mode))
 }
 
-// Takes one sample, or refuses it and stays as it is.
+// Takes one sample, or refuses it and leaves state and past as they are.
 #[no_mangle]
-pub extern "C" fn tetra_sample(
-    receiver: Demodulator,
+pub extern "C" fn tetra_state_sample(
+    state: State,
+    past_re: &mut [f32; 2048],
+    past_im: &mut [f32; 2048],
+    past_abs: &mut [f32; 2048],
     re: f32,
     im: f32,
     counter: i64,
-) -> TetraReceived
-    ensures refusal { λ r. ⌜ r .refusal ≡ sampleRefusal (validCount (viewOf receiver .next)) (record { re = re; im = im }) counter ⌝ }
-    ensures receiver { λ r. ⌜ viewOf (r .receiver) ≡ sampleOf (viewOf receiver) (record { re = re; im = im }) counter ⌝ }
+) -> TetraAnswered
+    ensures refusal { λ r. ⌜ r .refusal ≡ refusalOf (sampleOutcome (receiverOf state (now («past_re» .entry)) (now («past_im» .entry)) (now («past_abs» .entry))) (record { re = re; im = im }) counter .reply) ⌝ }
+    ensures receiver { λ r. ⌜ receiverOf (r .state) (now («past_re» .exit)) (now («past_im» .exit)) (now («past_abs» .exit)) ≡ sampleOutcome (receiverOf state (now («past_re» .entry)) (now («past_im» .entry)) (now («past_abs» .entry))) (record { re = re; im = im }) counter .receiver ⌝ }
+    ensures refused { λ r. ⌜ ((r .refusal ≡ 0 → ⊥) → Untouched state (r .state) (now («past_re» .entry)) (now («past_re» .exit)) (now («past_im» .entry)) (now («past_im» .exit)) (now («past_abs» .entry)) (now («past_abs» .exit))) ⌝ }
 {
-    let sampled = receiver.sample(ComplexSample { re, im }, SampleCount(counter));
+    let input = ComplexSample { re, im };
+    let sampled = state.sample(past_re, past_im, past_abs, input, SampleCount(counter));
     let answer = sampled.answer;
-    let next = sampled.receiver;
-    TetraReceived {
+    let next = sampled.state;
+    TetraAnswered {
         refusal: answer_number(answer),
-        receiver: next,
+        state: next,
     }
 }
 
 // Takes samples, re and im in turn, with the counters from first on: up to one that hands a slot over, or to one that is
-// refused, which is not taken.
+// refused, which is not taken. Where none is taken, state and past stay as they are.
 #[no_mangle]
-pub extern "C" fn tetra_feed(receiver: Demodulator, samples: &[f32], first: i64) -> TetraFed
-    ensures taken { λ r. ⌜ r .taken ≡ feedOf (viewOf receiver) (interleaved (now (samples .entry))) first .taken ⌝ }
-    ensures slot { λ r. ⌜ r .slot ≡ handsSlot (feedOf (viewOf receiver) (interleaved (now (samples .entry))) first .stop) ⌝ }
-    ensures refusal { λ r. ⌜ r .refusal ≡ stopRefusal (feedOf (viewOf receiver) (interleaved (now (samples .entry))) first .stop) ⌝ }
-    ensures receiver { λ r. ⌜ viewOf (r .receiver) ≡ feedOf (viewOf receiver) (interleaved (now (samples .entry))) first .receiver ⌝ }
+pub extern "C" fn tetra_state_feed(
+    state: State,
+    past_re: &mut [f32; 2048],
+    past_im: &mut [f32; 2048],
+    past_abs: &mut [f32; 2048],
+    samples: &[f32],
+    first: i64,
+) -> TetraFed
+    ensures taken { λ r. ⌜ r .taken ≡ feedOf (receiverOf state (now («past_re» .entry)) (now («past_im» .entry)) (now («past_abs» .entry))) (interleaved (now (samples .entry))) first .taken ⌝ }
+    ensures slot { λ r. ⌜ r .slot ≡ handsSlot (feedOf (receiverOf state (now («past_re» .entry)) (now («past_im» .entry)) (now («past_abs» .entry))) (interleaved (now (samples .entry))) first .stop) ⌝ }
+    ensures refusal { λ r. ⌜ r .refusal ≡ stopRefusal (feedOf (receiverOf state (now («past_re» .entry)) (now («past_im» .entry)) (now («past_abs» .entry))) (interleaved (now (samples .entry))) first .stop) ⌝ }
+    ensures receiver { λ r. ⌜ receiverOf (r .state) (now («past_re» .exit)) (now («past_im» .exit)) (now («past_abs» .exit)) ≡ feedOf (receiverOf state (now («past_re» .entry)) (now («past_im» .entry)) (now («past_abs» .entry))) (interleaved (now (samples .entry))) first .receiver ⌝ }
+    ensures refused { λ r. ⌜ (r .taken ≡ 0 → Untouched state (r .state) (now («past_re» .entry)) (now («past_re» .exit)) (now («past_im» .entry)) (now («past_im» .exit)) (now («past_abs» .entry)) (now («past_abs» .exit))) ⌝ }
 {
-    let fed = receiver.feed(samples, SampleCount(first));
+    let fed = state.feed(past_re, past_im, past_abs, samples, SampleCount(first));
     let stop = fed.stop;
-    let next = fed.receiver;
+    let next = fed.state;
     TetraFed {
         taken: fed.taken,
         slot: hands_slot(stop),
         refusal: stop_refusal(stop),
-        receiver: next,
+        state: next,
     }
 }
 
-// Takes the slot that waits: its views fill 510, 254 and 254 lent bytes. Or refuses, and everything stays as it is.
+// Takes the slot that waits: its views fill 510, 254 and 254 lent bytes. Or refuses, and everything stays as it is. The past
+// has no part in it.
 #[no_mangle]
-pub extern "C" fn tetra_take(
-    receiver: Demodulator,
+pub extern "C" fn tetra_state_take(
+    state: State,
     slot: &mut [u8],
     subslot1: &mut [u8],
     subslot2: &mut [u8],
 ) -> TetraTaken
-    ensures told { λ r. ⌜ toldTake r ≡ toldSlot (takeRefusal (now (slot .entry)) (now (subslot1 .entry)) (now (subslot2 .entry)) (viewOf receiver .slot .available)) (viewOf receiver .slot) ⌝ }
-    ensures receiver { λ r. ⌜ viewOf (r .receiver) ≡ unless (takeRefusal (now (slot .entry)) (now (subslot1 .entry)) (now (subslot2 .entry)) (viewOf receiver .slot .available)) (taken (viewOf receiver)) (viewOf receiver) ⌝ }
-    ensures slot { λ r. ⌜ now (slot .exit) ≡ unless (takeRefusal (now (slot .entry)) (now (subslot1 .entry)) (now (subslot2 .entry)) (viewOf receiver .slot .available)) (viewIn 510 (viewOf receiver .slot .full)) (now (slot .entry)) ⌝ }
-    ensures subslot1 { λ r. ⌜ now (subslot1 .exit) ≡ unless (takeRefusal (now (slot .entry)) (now (subslot1 .entry)) (now (subslot2 .entry)) (viewOf receiver .slot .available)) (viewIn 254 (viewOf receiver .slot .subslot1)) (now (subslot1 .entry)) ⌝ }
-    ensures subslot2 { λ r. ⌜ now (subslot2 .exit) ≡ unless (takeRefusal (now (slot .entry)) (now (subslot1 .entry)) (now (subslot2 .entry)) (viewOf receiver .slot .available)) (viewIn 254 (viewOf receiver .slot .subslot2)) (now (subslot2 .entry)) ⌝ }
+    ensures refusal { λ r. ⌜ ((re im abs : List Float) → r .refusal ≡ refusalOf (inNumbers (takeOutcome (receiverOf state re im abs) (now (slot .entry)) (now (subslot1 .entry)) (now (subslot2 .entry)) .reply))) ⌝ }
+    ensures slot { λ r. ⌜ ((re im abs : List Float) → r .slot ≡ slotOf (inNumbers (takeOutcome (receiverOf state re im abs) (now (slot .entry)) (now (subslot1 .entry)) (now (subslot2 .entry)) .reply))) ⌝ }
+    ensures receiver { λ r. ⌜ ((re im abs : List Float) → receiverOf (r .state) re im abs ≡ takeOutcome (receiverOf state re im abs) (now (slot .entry)) (now (subslot1 .entry)) (now (subslot2 .entry)) .receiver) ⌝ }
+    ensures lent { λ r. ⌜ ((re im abs : List Float) → now (slot .exit) ∷ now (subslot1 .exit) ∷ now (subslot2 .exit) ∷ [] ≡ takeOutcome (receiverOf state re im abs) (now (slot .entry)) (now (subslot1 .entry)) (now (subslot2 .entry)) .lent) ⌝ }
+    ensures refused { λ r. ⌜ ((r .refusal ≡ 0 → ⊥) → r .state ≡ state) ⌝ }
 {
-    let taken = receiver.take_demodulated_slot(slot, subslot1, subslot2);
-    let next = taken.receiver;
+    let taken = state.take_demodulated_slot(slot, subslot1, subslot2);
+    let next = taken.state;
     let answer = taken.answer;
-    let told = told_answer(answer);
-    let full = told.full;
-    let first = told.subslot1;
-    let second = told.subslot2;
     TetraTaken {
-        refusal: told.refusal,
-        number: told.number,
-        full,
-        subslot1: first,
-        subslot2: second,
-        receiver: next,
+        refusal: take_number(answer),
+        slot: take_slot(answer),
+        state: next,
     }
 }
 
-// Takes the slot timing of another receiver. A receiver that finds its own is refused.
+// Takes the slot timing of another receiver. A receiver that finds its own is refused. The past has no part in it.
 #[no_mangle]
-pub extern "C" fn tetra_follow(receiver: Demodulator, other: Demodulator) -> TetraReceived
-    ensures refusal { λ r. ⌜ r .refusal ≡ followRefusal (viewOf receiver .mode) ⌝ }
-    ensures receiver { λ r. ⌜ viewOf (r .receiver) ≡ followOf (viewOf receiver) (viewOf other) ⌝ }
+pub extern "C" fn tetra_state_follow(state: State, other: State) -> TetraAnswered
+    ensures refusal { λ r. ⌜ ((re im abs re₂ im₂ abs₂ : List Float) → r .refusal ≡ refusalOf (followOutcome (receiverOf state re im abs) (receiverOf other re₂ im₂ abs₂) .reply)) ⌝ }
+    ensures receiver { λ r. ⌜ ((re im abs re₂ im₂ abs₂ : List Float) → receiverOf (r .state) re im abs ≡ followOutcome (receiverOf state re im abs) (receiverOf other re₂ im₂ abs₂) .receiver) ⌝ }
+    ensures mode { λ r. ⌜ (r .refusal ≡ 0 → r .state .mode ≡ modeFollowing (modeOf (other .mode)) (state .mode)) ⌝ }
+    ensures refused { λ r. ⌜ ((r .refusal ≡ 0 → ⊥) → r .state ≡ state) ⌝ }
 {
-    let followed = receiver.sync_to_demodulator(other);
+    let followed = state.sync_to_demodulator(other);
     let answer = followed.answer;
-    let next = followed.receiver;
-    TetraReceived {
+    let next = followed.state;
+    TetraAnswered {
         refusal: answer_number(answer),
-        receiver: next,
+        state: next,
     }
 }

@@ -1,5 +1,6 @@
 -- `receiver::answer_number` meets its contract, case by case.
-use Rattle.demodulator.specs.Calls.{answerNumber}
+use Rattle.demodulator.specs.Calls.{replyOf}
+use Rattle.modem.specs.Receive.{refusalOf}
 use borrow.Author.Needs.{needs}
 use Rattle.modem.proofs.receiver.answer_number.Statement.{statement}
 use Rattle.modem.proofs.receiver.answer_number.Tie as tie
@@ -11,11 +12,11 @@ enum-known-answer : tie.Need-enum-known-answer
 enum-known-answer c = search needs
 
 returns : tie.Need-returns
-unfolding answerNumber
+unfolding refusalOf replyOf
 returns c = search needs
 
 returns-2 : tie.Need-returns-2
-unfolding answerNumber
+unfolding refusalOf replyOf
 returns-2 c = search needs
 
 pub answer-number-spec : {M : Type 1} → statement M

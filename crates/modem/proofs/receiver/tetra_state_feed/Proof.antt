@@ -1,13 +1,13 @@
--- `receiver::tetra_feed` meets its contract, by `feed`.
+-- `receiver::tetra_state_feed` meets its contract, by `State::feed`.
 use mathlib.Core.Path.{ap, _∙_}
 use lib.IntN.{ℤ}
 use mir.Syntax.{w64}
 use mir.ValLaws.{toZ-ofZ}
 use Rattle.demodulator.specs.Feed.{interleaved, feedOf}
-use Rattle.demodulator.specs.View.{viewOf}
+use Rattle.demodulator.specs.View.{receiverOf}
 use Rattle.modem.specs.Receive.{handsSlot, stopRefusal}
-use Rattle.modem.proofs.receiver.tetra_feed.Statement.{statement}
-use Rattle.modem.proofs.receiver.tetra_feed.Tie as tie
+use Rattle.modem.proofs.receiver.tetra_state_feed.Statement.{statement}
+use Rattle.modem.proofs.receiver.tetra_state_feed.Tie as tie
 
 feed-requires : tie.Need-feed-requires
 feed-requires c κs = tt
@@ -21,15 +21,19 @@ stop-refusal-requires c κs = tt
 returns : tie.Need-returns
 returns c =
     let f = c .before .before .before .feed in
-    let s = c .before .before .before .before .before in
-    let r = viewOf (s .args .receiver) in
-    let xs = interleaved (s .args .samples .now) in
+    let s = c .before .before .before .before .before .before .before .before in
+    let a = s .args in
+    let r = receiverOf (a .state) (a .past-re .now) (a .past-im .now) (a .past-abs .now) in
+    let xs = interleaved (a .samples .now) in
     let e = toZ-ofZ w64 _ (s .fits .first) in
     let stop = f .ensures .1 .0 ∙ ap (λ (z : ℤ). feedOf r xs z .stop) e in (
       f .ensures .0 ∙ ap (λ (z : ℤ). feedOf r xs z .taken) e,
-      (c .before .hands-slot .ensures ∙ ap handsSlot stop, (c .stop-refusal .ensures ∙ ap stopRefusal stop, f .ensures .1 .1 ∙ ap (λ (z : ℤ). feedOf r xs z .receiver) e)),
+      (
+        c .before .hands-slot .ensures ∙ ap handsSlot stop,
+        (c .stop-refusal .ensures ∙ ap stopRefusal stop, (f .ensures .1 .1 .0 ∙ ap (λ (z : ℤ). feedOf r xs z .receiver) e, f .ensures .1 .1 .1)),
+      ),
     )
 
-pub tetra-feed-spec : {M : Type 1} → statement M
-tetra-feed-spec =
+pub tetra-state-feed-spec : {M : Type 1} → statement M
+tetra-state-feed-spec =
     tie.close (tie.spec feed-requires hands-slot-requires stop-refusal-requires returns)

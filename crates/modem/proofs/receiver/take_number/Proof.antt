@@ -1,0 +1,24 @@
+-- `receiver::take_number` meets its contract, case by case.
+use mathlib.Core.Path.{_≡_}
+use Rattle.demodulator.specs.Calls.{takeReplyOf}
+use Rattle.modem.specs.Receive.{refusalOf}
+use borrow.Author.Needs.{needs}
+use Rattle.modem.proofs.receiver.take_number.Statement.{statement}
+use Rattle.modem.proofs.receiver.take_number.Tie as tie
+
+enum-told : tie.Need-enum-told
+enum-told c = search needs
+
+enum-known-answer : tie.Need-enum-known-answer
+enum-known-answer c = search needs
+
+returns : tie.Need-returns
+unfolding refusalOf takeReplyOf
+returns c = search needs
+
+returns-2 : tie.Need-returns-2
+unfolding refusalOf takeReplyOf
+returns-2 c = search needs
+
+pub take-number-spec : {M : Type 1} → statement M
+take-number-spec = tie.close (tie.spec enum-told enum-known-answer returns returns-2)

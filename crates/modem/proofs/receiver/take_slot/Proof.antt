@@ -1,0 +1,28 @@
+-- `receiver::take_slot` meets its contract, case by case.
+use mathlib.Core.Path.{_≡_}
+use Rattle.demodulator.specs.Calls.{takeReplyOf}
+use Rattle.modem.specs.Receive.{slotOf}
+use borrow.Author.Needs.{needs}
+use Rattle.modem.proofs.receiver.take_slot.Statement.{statement}
+use Rattle.modem.proofs.receiver.take_slot.Tie as tie
+
+enum-known-answer : tie.Need-enum-known-answer
+enum-known-answer c = search needs
+
+enum-told : tie.Need-enum-told
+enum-told c = search needs
+
+no-slot-requires : tie.Need-no-slot-requires
+no-slot-requires c κs = tt
+
+returns : tie.Need-returns
+unfolding slotOf takeReplyOf
+returns c = search needs
+
+returns-2 : tie.Need-returns-2
+unfolding slotOf takeReplyOf
+returns-2 c = search needs
+
+pub take-slot-spec : {M : Type 1} → statement M
+take-slot-spec =
+    tie.close (tie.spec enum-known-answer enum-told no-slot-requires returns returns-2)
