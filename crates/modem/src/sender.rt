@@ -8,7 +8,7 @@ ghost use mathlib.Core.Path.{_≡_};
 ghost use Prim.Native.Nat.{_/_};
 ghost use lib.ListN.{length};
 ghost use Rattle.modulator.specs.Sender.{dueOf, told, newSender, tells, after};
-ghost use Rattle.modulator.specs.Blocks.{dueAfter, sentBlock, Wrote};
+ghost use Rattle.modulator.specs.Blocks.{dueAfter, blockCall, Wrote};
 ghost use Rattle.modem.specs.Send.{isGiven, senderIn, sampleTold};
 
 #[repr(C)]
@@ -76,6 +76,7 @@ pub extern "C" fn tetra_send_sample(
     ensures refusal { λ r. ⌜ r .refusal ≡ tells (senderIn sender) (dueOf counter slot (isGiven «has_bits») (now (bits .entry))) .number ⌝ }
     ensures sample { λ r. ⌜ record { re = r .re; im = r .im } ≡ sampleTold (tells (senderIn sender) (dueOf counter slot (isGiven «has_bits») (now (bits .entry)))) ⌝ }
     ensures sender { λ r. ⌜ senderIn (r .sender) ≡ after (senderIn sender) (dueOf counter slot (isGiven «has_bits») (now (bits .entry))) ⌝ }
+    ensures kept { λ r. ⌜ ((r .refusal ≡ 0 → ⊥) → r .sender ≡ sender) ⌝ }
 {
     let state = sender.modulator;
     let record = sender.mapper;
@@ -98,7 +99,8 @@ pub extern "C" fn tetra_send_sample(
     }
 }
 
-// Sends as many samples as the buffer has room for, re and im in turn, or up to the first that is refused.
+// Sends as many samples as the buffer has room for, re and im in turn, or up to the first that is refused. The first
+// is refused whatever the room is.
 #[no_mangle]
 pub extern "C" fn tetra_send(
     sender: TetraSender,
@@ -108,8 +110,9 @@ pub extern "C" fn tetra_send(
     bits: &[u8],
     out: &mut [f32],
 ) -> TetraSent
-    ensures { λ r. ⌜ Wrote (sentBlock (dueAfter first slot (isGiven «has_bits») (now (bits .entry))) (length (now (out .entry)) / 2) 0 (senderIn sender))
+    ensures block { λ r. ⌜ Wrote (blockCall (dueAfter first slot (isGiven «has_bits») (now (bits .entry))) (length (now (out .entry)) / 2) (senderIn sender))
         (r .count) (r .refusal) (senderIn (r .sender)) (now (out .entry)) (now (out .exit)) ⌝ }
+    ensures kept { λ r. ⌜ (r .count ≡ 0 → r .sender ≡ sender) ⌝ }
 {
     let state = sender.modulator;
     let record = sender.mapper;

@@ -1,17 +1,17 @@
 -- A block is the calls one by one: samples that are not refused come out as the filter's block, and the first refusal ends it. Assumes nothing.
 use mathlib.Core.Path.{_≡_, refl, sym, ap, subst, _∙_}
-use mathlib.Core.Bool.{Bool, true, false, _&&_, cond}
+use mathlib.Core.Bool.{Bool, true, false, not, _&&_, _||_, cond}
 use mathlib.Core.Logic.{⊎-elim}
 use Prim.Native.Nat.{ℕ, zero, suc, _+_, _-_, _*_, _%_, _<_, _≤_, _^_, min}
 use native.Mathlib.Nat.{le-refl}
 use native.Mathlib.Omega.{arith}
 use mathlib.Core.List.{List, [], _∷_, _++_, append-nil}
-use lib.Dec.{eqb}
+use lib.Dec.{eqb, eqb·suc-zero}
 use lib.IntN.{ℤ, pos, _+ℤ_}
 use lib.ListN.{length, take, drop, length-append, length-map, length-drop, drop-of-length-le}
 use lib.Seq.{take-all, take-at}
 use lib.Ieee.{Float}
-use borrow.Author.Tests.{lt-ltb, le-ltb, eqb-true, eqb-false}
+use borrow.Author.Tests.{lt-ltb, le-ltb, eqb-true, eqb-false, not-false}
 use Rattle.dsp_types.specs.declared.ComplexSample.{ComplexSample}
 use Rattle.dsp_types.specs.Ints.{sum, same}
 use Rattle.dsp_types.specs.Refusals.{outOfCount}
@@ -23,9 +23,9 @@ use Rattle.fir.proofs.Rows.{rest}
 use Rattle.modulator.specs.declared.due.Due.{Due}
 use Rattle.modulator.specs.declared.due.Due.the-variants.{Refused, Silence, Symbol}
 use Rattle.modulator.specs.Dqpsk.{phaseAfter, inputOf}
-use Rattle.modulator.specs.Sender.{inputRefusal, placeIn, symbolAt, dueIn, dueAt, dueIf, dueOf, shapedOf, toldOf, nextLine, Told, Sender, fedBy, tells, after}
-use Rattle.modulator.specs.Blocks.{Block, joinedIf, joined, sentBlock, dueAfter, partsOf, Wrote, placeDue, inputsOf, phasesOf, fedBlock, leftOf}
-use Rattle.modulator.proofs.Places.{early, late, within, slot-accepted, refused}
+use Rattle.modulator.specs.Sender.{inputRefusal, placeIn, symbolAt, dueIn, dueAt, dueIf, dueOf, refusalOf, shapedOf, toldOf, nextLine, Told, Sender, fedBy, tells, after}
+use Rattle.modulator.specs.Blocks.{Block, joinedIf, joined, sentBlock, blockCall, dueAfter, partsOf, Wrote, placeDue, inputsOf, phasesOf, fedBlock, leftOf}
+use Rattle.modulator.proofs.Places.{true-ne, early, late, within, slot-accepted}
 
 -- it is not a refusal
 abbrev pub Sends : Due → Type 0
@@ -323,7 +323,7 @@ module _ (due other : ℕ → Due) (k n : ℕ) (h : (j : ℕ) → other j ≡ du
                 (start-part (partsOf (one .outs)) (partsOf (two .outs)) out₀ (2 * k) (parts-length (one .outs) ∙ ap (λ (m : ℕ). 2 * m) (sym (a .counted))));
           }
 
--- ---- what is due later, and blocks of no samples
+-- ---- what is due later, and no samples
 
 pub due-later : (first slot : ℕ) (b : Bool) (bits : List ℕ) (k j : ℕ) → placeDue (first + k) slot b bits j ≡ placeDue first slot b bits (k + j)
 unfolding placeDue
@@ -335,23 +335,64 @@ pub wrote-none : (due : ℕ → Due) (r : ℕ) (s : Sender) (out : List Float) �
 unfolding fedBlock inputsOf outsOf lineAfter phasesOf partsOf startWith
 wrote-none due r s out = record { counted = refl; refused = refl; sent = refl; written = refl }
 
-pub no-room : (due : ℕ → Due) (room : ℕ) (s : Sender) (out : List Float) → room ≡ 0 → Wrote (sentBlock due room 0 s) 0 0 s out out
-unfolding sentBlock partsOf startWith
-no-room due room s out e = rw e (record { counted = refl; refused = refl; sent = refl; written = refl })
+-- ---- the first sample
 
-first-due : (first : ℤ) (slot : ℕ) (b : Bool) (bits : List ℕ) (r : ℕ) → r ≡ inputRefusal first slot b bits → (r ≡ 0 → ⊥) → dueAfter first slot b bits 0 ≡ Refused r
-unfolding dueAfter dueOf
-first-due first slot b bits r e h =
+first-due : (first : ℤ) (slot : ℕ) (b : Bool) (bits : List ℕ) → dueAfter first slot b bits 0 ≡ dueOf first slot b bits
+unfolding dueAfter
+first-due first slot b bits =
     let f : first +ℤ pos 0 ≡ first = same (first +ℤ pos 0) first (omega (arith, sum first (pos 0))) in
-    rw (f, ← e) (sym (refused r (dueAt b bits (placeIn first slot)) h))
+    rw f
 
-pub none-sent : (first : ℤ) (slot : ℕ) (b : Bool) (bits : List ℕ) (r room : ℕ) (s : Sender) (out : List Float) → r ≡ inputRefusal first slot b bits → (r ≡ 0 → ⊥) → (room ≡ 0 → ⊥)
-    → Wrote (sentBlock (dueAfter first slot b bits) room 0 s) 0 r s out out
-unfolding partsOf startWith
-none-sent first slot b bits r zero s out e h k = absurd (k refl)
-none-sent first slot b bits zero (suc room) s out e h k = absurd (h refl)
-none-sent first slot b bits (suc r) (suc room) s out e h k =
-    rw (stopped (dueAfter first slot b bits) room 0 r s (first-due first slot b bits (suc r) e h)) (record { counted = refl; refused = refl; sent = refl; written = refl })
+refused-due : (r : ℕ) (d : Due) → suc r ≡ refusalOf d → d ≡ Refused (suc r)
+unfolding refusalOf
+refused-due r (Refused n) e = ap Refused (sym e)
+refused-due r Silence e = absurd (omega (arith, e))
+refused-due r (Symbol bit0 bit1) e = absurd (omega (arith, e))
+
+-- it is refused, or there is no room for it
+pub none-sent : (first : ℤ) (slot : ℕ) (b : Bool) (bits : List ℕ) (r room : ℕ) (s : Sender) (out : List Float) → r ≡ refusalOf (dueOf first slot b bits) → (not (eqb r 0) || eqb room 0) ≡ true
+    → Wrote (blockCall (dueAfter first slot b bits) room s) 0 r s out out
+unfolding blockCall partsOf startWith
+none-sent first slot b bits r zero s out e h = record { counted = refl; refused = e ∙ ap refusalOf (sym (first-due first slot b bits)); sent = refl; written = refl }
+none-sent first slot b bits zero (suc room) s out e h = absurd (true-ne (sym h ∙ eqb·suc-zero room))
+none-sent first slot b bits (suc r) (suc room) s out e h =
+    rw (stopped (dueAfter first slot b bits) room 0 r s (first-due first slot b bits ∙ refused-due r _ e)) (record { counted = refl; refused = refl; sent = refl; written = refl })
+
+-- it is sent
+neither : (x y : Bool) → (x || y) ≡ false → (x ≡ false) × (y ≡ false)
+neither true y e = absurd (true-ne e)
+neither false y e = (refl, e)
+
+module _ (r room : ℕ) (h : (not (eqb r 0) || eqb room 0) ≡ false) where
+  pub no-refusal : r ≡ 0
+  no-refusal = eqb-true r 0 (not-false (eqb r 0) (neither (not (eqb r 0)) (eqb room 0) h .0))
+
+  pub some-room : 0 < room
+  some-room = let n = eqb-false room 0 (neither (not (eqb r 0)) (eqb room 0) h .1) in ⊎-elim (λ (l : 1 ≤ room). l) (λ (l : room < 1). absurd (n (omega arith))) (le-or-lt 1 room)
+
+pub input-accepted : (n : ℕ) (d : Due) → refusalOf (dueIf n d) ≡ 0 → n ≡ 0
+unfolding dueIf refusalOf
+input-accepted zero d e = refl
+input-accepted (suc n) d e = e
+
+pub room-called : (due : ℕ → Due) (room : ℕ) (s : Sender) → 0 < room → blockCall due room s ≡ sentBlock due room 0 s
+unfolding blockCall
+room-called due zero s h = absurd (omega arith)
+room-called due (suc room) s h = refl
+
+pub some-left : (m slot : ℕ) (b : Bool) (bits : List ℕ) → inputRefusal (pos m) slot b bits ≡ 0 → m < 2 ^ 37 → refusalOf (dueOf (pos m) slot b bits) ≡ 0 → 0 < leftOf m slot
+unfolding refusalOf
+some-left m slot b bits h l e = go (leftOf m slot) refl
+  where
+    go : (n : ℕ) → leftOf m slot ≡ n → 0 < n
+    go (suc n) f = omega arith
+    go zero f =
+        let d = past m slot b bits h (omega arith) in
+        absurd (omega (arith, sym e ∙ ap refusalOf (sym (first-due (pos m) slot b bits) ∙ rw f at d)))
+
+pub fed-count : (due : ℕ → Due) (n r count refusal : ℕ) (s t : Sender) (out out′ : List Float) → Wrote (fedBlock due n r s) count refusal t out out′ → count ≡ n
+unfolding fedBlock
+fed-count due n r count refusal s t out out′ w = w .counted ∙ length-outs (s .line) (inputsOf due n 0 (s .phase)) ∙ inputs-length due n 0 (s .phase)
 
 pub count-within : (m slot : ℕ) → m < 2 ^ 37 → m + leftOf m slot ≤ 2 ^ 37
 unfolding leftOf
@@ -375,5 +416,8 @@ unfolding sentBlock joined
 sent-within due zero i s = omega arith
 sent-within due (suc n) i s = no-longer (tells s (due i) .number) (tells s (due i)) (after s (due i)) _ n (one-sample s (due i)) (sent-within due n (suc i) (after s (due i)))
 
-pub wrote-within : (due : ℕ → Due) (n count r : ℕ) (s t : Sender) (out out′ : List Float) → Wrote (sentBlock due n 0 s) count r t out out′ → count ≤ n
-wrote-within due n count r s t out out′ w = omega (arith, w .counted, sent-within due n 0 s)
+-- of what a block call promises
+pub wrote-within : (due : ℕ → Due) (n count r : ℕ) (s t : Sender) (out out′ : List Float) {Kept : Type 0} → Wrote (blockCall due n s) count r t out out′ × Kept → count ≤ n
+unfolding blockCall
+wrote-within due zero count r s t out out′ w = omega (arith, w .0 .counted)
+wrote-within due (suc n) count r s t out out′ w = omega (arith, w .0 .counted, sent-within due (suc n) 0 s)

@@ -15,7 +15,7 @@ use Rattle.modulator.specs.declared.due.Due.{Due}
 use Rattle.modulator.specs.declared.due.Due.the-variants.{Refused, Silence, Symbol}
 use Rattle.modulator.specs.Sender.{bitsRefusal, slotRefusal, inputRefusal, placeIn, symbolAt, dueIn, dueAt, dueIf, Bits}
 
-true-ne : true ≡ false → ⊥
+pub true-ne : true ≡ false → ⊥
 true-ne e = let z : _≡_ {A = ℕ} 0 1 = cc in omega arith
 
 -- ---- refusals from the input

@@ -1,14 +1,35 @@
 -- A call, from what is due, what it makes of the phase, and what the filter makes of it. Assumes nothing.
-use mathlib.Core.Path.{_≡_, ap, _∙_}
+use mathlib.Core.Path.{_≡_, refl, sym, ap, _∙_}
+use mathlib.Core.Bool.{Bool}
+use mathlib.Core.List.{List}
 use Prim.Native.Nat.{ℕ}
+use native.Mathlib.Omega.{arith}
+use lib.ListN.{length}
 use Rattle.dsp_types.specs.declared.ComplexSample.{ComplexSample}
 use Rattle.fir.specs.Fir.{lineOf}
 use Rattle.modulator.specs.declared.due.Due.{Due}
+use Rattle.modulator.specs.declared.due.Due.the-variants.{Refused, Silence, Symbol}
 use Rattle.modulator.specs.declared.mapper.DqpskMapper.{DqpskMapper}
+use Rattle.modulator.specs.declared.sender.Answer.{Answer}
+use Rattle.modulator.specs.declared.sender.Answer.the-variants as answer
 use Rattle.modulator.specs.declared.sender.Sampled.{Sampled}
 use Rattle.modulator.specs.declared.sender.Modulator.{Modulator}
 use Rattle.modulator.specs.Dqpsk.{phaseAfter, inputOf}
-use Rattle.modulator.specs.Sender.{told, toldOf, nextLine, senderOf, tells, after, fedBy}
+use Rattle.modulator.specs.Sender.{Told, told, shapedOf, toldOf, nextLine, senderOf, tells, after, fedBy}
+
+-- ---- a refusal is no sample
+
+pub silence-sends : (n : ℕ) → Silence ≡ Refused n → ⊥
+silence-sends n e = let z : _≡_ {A = ℕ} 0 1 = cc in omega arith
+
+pub symbol-sends : (bit0 bit1 : Bool) (n : ℕ) → Symbol bit0 bit1 ≡ Refused n → ⊥
+symbol-sends bit0 bit1 n e = let z : _≡_ {A = ℕ} 0 1 = cc in omega arith
+
+shaped-sends : (line : List ComplexSample) (x : ComplexSample) (n : ℕ) → told (answer.Refused n) ≡ shapedOf line x → ⊥
+unfolding told shapedOf
+shaped-sends line x n e = omega (arith, ap (λ (t : Told). length (t .samples)) e)
+
+-- ---- a call
 
 -- what is said of the phase and of what is fed, and of the filter
 abbrev pub Stepped : ℕ → Due → ℕ → ComplexSample → Type 0
@@ -16,10 +37,20 @@ Stepped n d k x = (k ≡ phaseAfter n d) × (x ≡ inputOf (phaseAfter n d) d)
 
 abbrev pub Fed : Modulator → Due → ComplexSample → Sampled → Type 0
 Fed m d x r = (told (r .answer) ≡ toldOf (lineOf (m .filter)) x d) × (lineOf (r .modulator .filter) ≡ nextLine (lineOf (m .filter)) x d)
+    × ((n : ℕ) → d ≡ Refused n → r .modulator ≡ m)
 
 -- ... and of the call
 abbrev pub Sent : Modulator → DqpskMapper → Due → DqpskMapper → Sampled → Type 0
 Sent m h d k r = (told (r .answer) ≡ tells (senderOf m h) d) × (senderOf (r .modulator) k ≡ after (senderOf m h) d)
+    × ((n : ℕ) → r .answer ≡ answer.Refused n → (r .modulator ≡ m) × (k ≡ h))
+
+-- a refused call changes nothing
+unchanged : (m : Modulator) (h : DqpskMapper) (d : Due) (k : DqpskMapper) (x : ComplexSample) (r : Sampled) (n : ℕ) → Stepped (h .phase) d (k .phase) x → Fed m d x r → r .answer ≡ answer.Refused n
+    → (r .modulator ≡ m) × (k ≡ h)
+unfolding phaseAfter toldOf
+unchanged m h (Refused i) k x r n s f a = (f .2 i refl, λ j. record { phase = s .0 j })
+unchanged m h Silence k x r n s f a = absurd (shaped-sends _ _ n (sym (ap told a) ∙ f .0))
+unchanged m h (Symbol bit0 bit1) k x r n s f a = absurd (shaped-sends _ _ n (sym (ap told a) ∙ f .0))
 
 pub sent : (m : Modulator) (h : DqpskMapper) (d e : Due) (k : DqpskMapper) (x : ComplexSample) (r : Sampled) → d ≡ e → Stepped (h .phase) d (k .phase) x → Fed m d x r → Sent m h e k r
 unfolding senderOf tells after fedBy
@@ -27,4 +58,4 @@ sent m h d e k x r p s f =
     let y : x ≡ inputOf (phaseAfter (h .phase) e) e = s .1 ∙ ap (λ (c : Due). inputOf (phaseAfter (h .phase) c) c) p in
     let line = f .1 ∙ (λ i. nextLine (lineOf (m .filter)) (y i) (p i)) in
     let phase = s .0 ∙ ap (phaseAfter (h .phase)) p in
-    (f .0 ∙ (λ i. toldOf (lineOf (m .filter)) (y i) (p i)), λ i. record { line = line i; phase = phase i })
+    (f .0 ∙ (λ i. toldOf (lineOf (m .filter)) (y i) (p i)), λ i. record { line = line i; phase = phase i }, λ n a. unchanged m h d k x r n s f a)

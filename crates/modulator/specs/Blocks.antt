@@ -11,7 +11,7 @@ use Rattle.dsp_types.specs.Refusals.{accepted}
 use Rattle.fir.specs.Fir.{lineAfter, outsOf, startWith}
 use Rattle.modulator.specs.declared.due.Due.{Due}
 use Rattle.modulator.specs.Dqpsk.{phaseAfter, inputOf}
-use Rattle.modulator.specs.Sender.{placeIn, dueAt, dueOf, Told, Sender, tells, after}
+use Rattle.modulator.specs.Sender.{placeIn, dueAt, dueOf, refusalOf, Told, Sender, tells, after}
 
 -- the samples, oldest first, the number of the refusal that stopped them, if any, and the sender then
 pub record Block : Type 0 where
@@ -32,6 +32,11 @@ joined t s rest = joinedIf (t .number) t s rest
 unfoldable pub sentBlock : (ℕ → Due) → ℕ → ℕ → Sender → Block
 sentBlock due zero i s = record { outs = []; refusal = accepted; sender = s }
 sentBlock due (suc n) i s = joined (tells s (due i)) (after s (due i)) (sentBlock due n (suc i) (after s (due i)))
+
+-- a block call with room for n samples. It is refused first, whatever the room is (01, "The sender": checked in every call)
+unfoldable pub blockCall : (ℕ → Due) → ℕ → Sender → Block
+blockCall due zero s = record { outs = []; refusal = refusalOf (due 0); sender = s }
+blockCall due (suc n) s = sentBlock due (suc n) 0 s
 
 -- what is due i samples after the first
 unfoldable pub dueAfter : ℤ → ℕ → Bool → List ℕ → ℕ → Due

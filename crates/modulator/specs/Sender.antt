@@ -62,6 +62,12 @@ dueIf (suc n) due = Refused (suc n)
 unfoldable pub dueOf : ℤ → ℕ → Bool → List ℕ → Due
 dueOf counter slot hasBits bits = dueIf (inputRefusal counter slot hasBits bits) (dueAt hasBits bits (placeIn counter slot))
 
+-- the number by which a call is refused, or 0
+unfoldable pub refusalOf : Due → ℕ
+refusalOf (Refused n) = n
+refusalOf Silence = accepted
+refusalOf (Symbol bit0 bit1) = accepted
+
 -- bits that are given are 510
 pub record Bits (hasBits : Bool) (bits : List ℕ) : Type 0 where
   pub long : hasBits ≡ true → length bits ≡ 510

@@ -1,6 +1,6 @@
 // A block of samples in one call, for gateways: what the calls one by one would send.
 use crate::due::due_at;
-use crate::due::input_refusal;
+use crate::due::refusal_now;
 use crate::mapper::DqpskMapper;
 use crate::mapper::input;
 use crate::mapper::phase_after;
@@ -15,7 +15,7 @@ ghost use lib.Dec.{eqb};
 ghost use lib.ListN.{length, take};
 ghost use Rattle.fir.specs.Fir.{samplesOf, startWith, reOf, imOf};
 ghost use Rattle.modulator.specs.Sender.{Bits, senderOf};
-ghost use Rattle.modulator.specs.Blocks.{dueAfter, sentBlock, partsOf, Wrote, placeDue, inputsOf, phasesOf, fedBlock, leftOf};
+ghost use Rattle.modulator.specs.Blocks.{dueAfter, blockCall, partsOf, Wrote, placeDue, inputsOf, phasesOf, fedBlock, leftOf};
 
 pub struct Sent {
     // How many samples were written.
@@ -172,7 +172,7 @@ impl Modulator {
     }
 
     // As many samples as the buffer has room for, re and im in turn, or up to the first that is refused. What is behind
-    // them in the buffer is left as it was.
+    // them in the buffer is left as it was. The first is refused whatever the room is.
     pub fn block(
         self,
         mapper: DqpskMapper,
@@ -182,22 +182,15 @@ impl Modulator {
         bits: &[u8],
         out: &mut [f32],
     ) -> Sent
-        ensures { λ r. ⌜
+        ensures block { λ r. ⌜
             (let due = dueAfter («sample_counter» .0) (slot .0) «has_bits» (now (bits .entry)) in
-            Wrote (sentBlock due (length (now (out .entry)) / 2) 0 (senderOf self mapper))
+            Wrote (blockCall due (length (now (out .entry)) / 2) (senderOf self mapper))
             (r .count) (r .refusal) (senderOf (r .modulator) (r .mapper)) (now (out .entry)) (now (out .exit))) ⌝ }
+        ensures kept { λ r. ⌜ (r .count ≡ 0 → (r .modulator ≡ self) × (r .mapper ≡ mapper)) ⌝ }
     {
         let room = out.len() / 2;
-        if room == 0 {
-            return Sent {
-                count: 0,
-                refusal: 0,
-                modulator: self,
-                mapper,
-            };
-        }
-        let refusal = input_refusal(sample_counter.0, slot.0, has_bits, bits);
-        if refusal != 0 {
+        let refusal = refusal_now(sample_counter, slot, has_bits, bits);
+        if (refusal != 0) | (room == 0) {
             return Sent {
                 count: 0,
                 refusal,

@@ -6,7 +6,7 @@ ghost use Prim.Native.Nat.{_≤_, _<_, _^_};
 ghost use lib.IntN.{pos};
 ghost use lib.ListN.{length};
 ghost use Rattle.dsp_types.specs.Refusals.{outOfCount};
-ghost use Rattle.modulator.specs.Sender.{bitsRefusal, inputRefusal, placeIn, dueAt, dueOf, Bits};
+ghost use Rattle.modulator.specs.Sender.{bitsRefusal, inputRefusal, placeIn, dueAt, dueOf, refusalOf, Bits};
 
 pub enum Due {
     Refused(u32),
@@ -36,7 +36,7 @@ fn bits_refusal(has_bits: bool, bits: &[u8]) -> u32
     0
 }
 
-pub(crate) fn input_refusal(counter: i64, slot: u32, has_bits: bool, bits: &[u8]) -> u32
+fn input_refusal(counter: i64, slot: u32, has_bits: bool, bits: &[u8]) -> u32
     ensures { λ r. ⌜ r ≡ inputRefusal counter slot «has_bits» (now (bits .entry)) ⌝ }
 {
     if is_out_of_count(counter) {
@@ -84,4 +84,16 @@ pub(crate) fn due_now(counter: SampleCount, slot: TdmaTime, has_bits: bool, bits
         return Due::Refused(refusal);
     }
     due_at(dsp_types::unsigned(counter.0), slot.0, has_bits, bits)
+}
+
+// The number by which a call is refused, or 0.
+pub(crate) fn refusal_now(counter: SampleCount, slot: TdmaTime, has_bits: bool, bits: &[u8]) -> u32
+    ensures { λ r. ⌜ r ≡ refusalOf (dueOf (counter .0) (slot .0) «has_bits» (now (bits .entry))) ⌝ }
+{
+    let due = due_now(counter, slot, has_bits, bits);
+    match due {
+        Due::Refused(number) => number,
+        Due::Silence => 0,
+        Due::Symbol(_, _) => 0,
+    }
 }

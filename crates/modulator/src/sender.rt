@@ -10,6 +10,7 @@ use dsp_types::TdmaTime;
 use fir::FirComplexSym;
 ghost use mathlib.Core.Path.{_≡_};
 ghost use mathlib.Core.List.{_∷_};
+ghost use Prim.Native.Nat.{ℕ};
 ghost use lib.ListN.{take, replicate};
 ghost use Rattle.dsp_types.specs.Samples.{silence};
 ghost use Rattle.fir.specs.Fir.{lineOf};
@@ -66,7 +67,8 @@ impl Modulator {
     // What is due goes through the filter. A refusal leaves the filter as it is.
     pub(crate) fn feed(self, due: Due, input: ComplexSample) -> Sampled
         ensures { λ r. ⌜ (told (r .answer) ≡ toldOf (lineOf (self .filter)) input due)
-            × (lineOf (r .modulator .filter) ≡ nextLine (lineOf (self .filter)) input due) ⌝ }
+            × (lineOf (r .modulator .filter) ≡ nextLine (lineOf (self .filter)) input due)
+            × ((n : ℕ) → due ≡ Due.Refused n → r .modulator ≡ self) ⌝ }
     {
         match due {
             Due::Refused(number) => Sampled {
@@ -90,12 +92,14 @@ impl Modulator {
         ensures { λ r. ⌜
             (let d = dueOf («sample_counter» .0) (slot .0) «has_bits» (now (bits .entry)) in
             (told (r .answer) ≡ tells (senderOf self (now (mapper .entry))) d)
-            × (senderOf (r .modulator) (now (mapper .exit)) ≡ after (senderOf self (now (mapper .entry))) d)) ⌝ }
+            × (senderOf (r .modulator) (now (mapper .exit)) ≡ after (senderOf self (now (mapper .entry))) d)
+            × ((n : ℕ) → r .answer ≡ Answer.Refused n → (r .modulator ≡ self) × (now (mapper .exit) ≡ now (mapper .entry)))) ⌝ }
     {
         let d = due_now(sample_counter, slot, has_bits, bits);
         let input = mapper.symbol(d);
         self.feed(d, input)
     }
+
     // The same with the phase record by value, for callers that keep it beside the state.
     pub fn step(
         self,
@@ -108,7 +112,8 @@ impl Modulator {
         ensures { λ r. ⌜
             (let d = dueOf («sample_counter» .0) (slot .0) «has_bits» (now (bits .entry)) in
             (told (r .answer) ≡ tells (senderOf self mapper) d)
-            × (senderOf (r .modulator) (r .mapper) ≡ after (senderOf self mapper) d)) ⌝ }
+            × (senderOf (r .modulator) (r .mapper) ≡ after (senderOf self mapper) d)
+            × ((n : ℕ) → r .answer ≡ Answer.Refused n → (r .modulator ≡ self) × (r .mapper ≡ mapper))) ⌝ }
     {
         let d = due_now(sample_counter, slot, has_bits, bits);
         let phase = phase_after(mapper.phase, d);

@@ -14,7 +14,9 @@ same-length c = search needs
 
 returns : tie.Need-returns
 unfolding senderIn
-returns c = rw (toZ-ofZ w64 _ (c .before .before .before .before .before .before .before .before .before .before .fits .first)) at (c .before .before .before .before .block .ensures)
+returns c =
+    let b = rw (toZ-ofZ w64 _ (c .before .before .before .before .before .before .before .before .before .before .fits .first)) at (c .before .before .before .before .block .ensures) in
+    (b .0, λ z. let k = b .1 z in λ i. record { modulator = k .0 i; mapper = k .1 i })
 
 pub tetra-send-spec : {M : Type 1} → statement M
 tetra-send-spec = tie.close (tie.spec block-requires same-length returns)

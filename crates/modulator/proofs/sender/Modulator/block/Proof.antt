@@ -1,5 +1,5 @@
 -- `Modulator::block` meets its contract: the samples before the first refusal are counted, sent together, and the refusal is told.
-use mathlib.Core.Path.{_≡_, ap, sym, _∙_}
+use mathlib.Core.Path.{_≡_, refl, ap, sym, _∙_}
 use Prim.Native.Nat.{ℕ, _/_, _<_, _^_}
 use native.Mathlib.Omega.{arith}
 use lib.IntN.{ℤ, pos}
@@ -8,99 +8,105 @@ use lib.Signed.{mag}
 use mir.Syntax.{w64}
 use mir.Val.{SFits}
 use mir.ValLaws.{toZ-ofZ}
-use Rattle.modulator.specs.Sender.{Bits, inputRefusal, senderOf}
-use Rattle.modulator.specs.Blocks.{dueAfter, sentBlock, placeDue, fedBlock}
+use Rattle.modulator.specs.Sender.{Bits, inputRefusal, dueOf, refusalOf, senderOf}
+use Rattle.modulator.specs.Blocks.{dueAfter, blockCall, placeDue, fedBlock, leftOf}
 use Rattle.modulator.proofs.Places.{accepted-count, accepted-bits}
-use Rattle.modulator.proofs.Blocks.{no-room, none-sent, filled, ended, count-within}
+use Rattle.modulator.proofs.Blocks.{none-sent, no-refusal, some-room, input-accepted, room-called, some-left, fed-count, filled, ended, count-within}
 use borrow.Author.Needs.{needs}
 use Rattle.modulator.proofs.sender.Modulator.block.Statement.{statement}
 use Rattle.modulator.proofs.sender.Modulator.block.Tie as tie
 
-counter-fits : (c : tie.After-input-refusal) → SFits w64 (c .before .before .before .before .before .args .sample-counter .0)
+counter-fits : (c : tie.After-refusal-now) → SFits w64 (c .before .before .before .args .sample-counter .0)
 counter-fits c = search needs
 
-refusal : (c : tie.After-input-refusal) → let a = c .before .before .before .before .before .args in
-    c .input-refusal .result ≡ inputRefusal (a .sample-counter .0) (a .slot .0) (a .has-bits) (a .bits .now)
-refusal c = rw (toZ-ofZ w64 _ (counter-fits c)) at (c .input-refusal .ensures)
-
--- what is known of an accepted first sample
+-- what is known of a first sample that is sent
 module _ (c : tie.After-unsigned) where
-  sized : c .unsigned .result ≡ mag (c .before .before .before .before .before .before .before .before .args .sample-counter .0)
+  sized : c .unsigned .result ≡ mag (c .before .before .before .before .before .before .args .sample-counter .0)
   sized = rw (toZ-ofZ w64 _ (counter-fits (c .before .before .before))) at (c .unsigned .ensures)
 
-  none : let a = c .before .before .before .before .before .before .before .before .args in inputRefusal (a .sample-counter .0) (a .slot .0) (a .has-bits) (a .bits .now) ≡ 0
-  none = sym (refusal (c .before .before .before)) ∙ c .before .before .if2 .left
+  room : 0 < length (c .before .before .before .before .before .before .args .out .now) / 2
+  room = some-room (c .before .before .before .refusal-now .result) _ (c .before .before .if1 .left)
 
-  first-is : c .before .before .before .before .before .before .before .before .args .sample-counter .0 ≡ pos (c .unsigned .result)
-  first-is = let a = c .before .before .before .before .before .before .before .before .args in accepted-count (a .sample-counter .0) (a .slot .0) (a .has-bits) (a .bits .now) none .0 ∙ ap pos (sym sized)
+  unrefused : let a = c .before .before .before .before .before .before .args in refusalOf (dueOf (a .sample-counter .0) (a .slot .0) (a .has-bits) (a .bits .now)) ≡ 0
+  unrefused =
+      let a = c .before .before .before .before .before .before .args in
+      sym (c .before .before .before .refusal-now .ensures) ∙ no-refusal _ (length (a .out .now) / 2) (c .before .before .if1 .left)
+
+  none : let a = c .before .before .before .before .before .before .args in inputRefusal (a .sample-counter .0) (a .slot .0) (a .has-bits) (a .bits .now) ≡ 0
+  unfolding dueOf
+  none = input-accepted _ _ unrefused
+
+  first-is : c .before .before .before .before .before .before .args .sample-counter .0 ≡ pos (c .unsigned .result)
+  first-is = let a = c .before .before .before .before .before .before .args in accepted-count (a .sample-counter .0) (a .slot .0) (a .has-bits) (a .bits .now) none .0 ∙ ap pos (sym sized)
 
   small : c .unsigned .result < 2 ^ 37
-  small = let a = c .before .before .before .before .before .before .before .before .args in rw sized (accepted-count (a .sample-counter .0) (a .slot .0) (a .has-bits) (a .bits .now) none .1)
+  small = let a = c .before .before .before .before .before .before .args in rw sized (accepted-count (a .sample-counter .0) (a .slot .0) (a .has-bits) (a .bits .now) none .1)
 
-  bits-are : Bits (c .before .before .before .before .before .before .before .before .args .has-bits) (c .before .before .before .before .before .before .before .before .args .bits .now)
-  bits-are = let a = c .before .before .before .before .before .before .before .before .args in accepted-bits (a .sample-counter .0) (a .slot .0) (a .has-bits) (a .bits .now) none
+  bits-are : Bits (c .before .before .before .before .before .before .args .has-bits) (c .before .before .before .before .before .before .args .bits .now)
+  bits-are = let a = c .before .before .before .before .before .before .args in accepted-bits (a .sample-counter .0) (a .slot .0) (a .has-bits) (a .bits .now) none
 
-  accepted : let a = c .before .before .before .before .before .before .before .before .args in inputRefusal (pos (c .unsigned .result)) (a .slot .0) (a .has-bits) (a .bits .now) ≡ 0
-  accepted = let a = c .before .before .before .before .before .before .before .before .args in ap (λ (z : ℤ). inputRefusal z (a .slot .0) (a .has-bits) (a .bits .now)) (sym first-is) ∙ none
+  accepted : let a = c .before .before .before .before .before .before .args in inputRefusal (pos (c .unsigned .result)) (a .slot .0) (a .has-bits) (a .bits .now) ≡ 0
+  accepted = let a = c .before .before .before .before .before .before .args in ap (λ (z : ℤ). inputRefusal z (a .slot .0) (a .has-bits) (a .bits .now)) (sym first-is) ∙ none
+
+  left : 0 < leftOf (c .unsigned .result) (c .before .before .before .before .before .before .args .slot .0)
+  left =
+      let a = c .before .before .before .before .before .before .args in
+      some-left (c .unsigned .result) (a .slot .0) (a .has-bits) (a .bits .now) accepted small (ap (λ (z : ℤ). refusalOf (dueOf z (a .slot .0) (a .has-bits) (a .bits .now))) (sym first-is) ∙ unrefused)
+
+refusal-now-requires : tie.Need-refusal-now-requires
+refusal-now-requires c κs = search needs
 
 returns : tie.Need-returns
 returns c =
-    let a = c .before .before .before .args in
-    no-room (dueAfter (a .sample-counter .0) (a .slot .0) (a .has-bits) (a .bits .now)) _ (senderOf (a .self) (a .mapper)) (a .out .now) (c .if1 .taken)
-
-input-refusal-requires : tie.Need-input-refusal-requires
-input-refusal-requires c κs = search needs
-
-returns-2 : tie.Need-returns-2
-returns-2 c =
-    let a = c .before .before .before .before .before .before .args in
-    none-sent (a .sample-counter .0) (a .slot .0) (a .has-bits) (a .bits .now) (c .before .input-refusal .result) _ (senderOf (a .self) (a .mapper)) (a .out .now)
-    (refusal (c .before)) (c .if2 .taken) (c .before .before .before .if1 .left)
+    let a = c .before .before .before .before .args in
+    (none-sent (a .sample-counter .0) (a .slot .0) (a .has-bits) (a .bits .now) (c .before .refusal-now .result) _ (senderOf (a .self) (a .mapper)) (a .out .now) (c .before .refusal-now .ensures) (c .if1 .taken), λ z. (refl, refl))
 
 unsigned-requires : tie.Need-unsigned-requires
 unsigned-requires c κs = search needs
 
 left-requires : tie.Need-left-requires
-left-requires c κs =
-    small c
+left-requires c κs = small c
 
 send-requires : tie.Need-send-requires
 send-requires c κs =
     let l = c .before .before in
-    (omega arith, omega (arith, count-within (l .before .unsigned .result) (l .before .before .before .before .before .before .before .before .before .args .slot .0) (small (l .before)), l .left .ensures, c .before .if3 .taken), bits-are (l .before))
+    (omega arith, omega (arith, count-within (l .before .unsigned .result) (l .before .before .before .before .before .before .before .args .slot .0) (small (l .before)), l .left .ensures, c .before .if2 .taken), bits-are (l .before))
 
 same-length : tie.Need-same-length
 same-length c = search needs
 
-returns-3 : tie.Need-returns-3
-returns-3 c =
-    let a = c .before .before .before .before .before .before .before .before .before .before .before .before .before .before .args in
+returns-2 : tie.Need-returns-2
+returns-2 c =
+    let a = c .before .before .before .before .before .before .before .before .before .before .before .before .args in
     let l = c .before .before .before .before .before in
     let u = l .before in
     let m = u .unsigned .result in
     let s = senderOf (a .self) (a .mapper) in
     let n = length (a .out .now) / 2 in
-    let e : sentBlock (dueAfter (a .sample-counter .0) (a .slot .0) (a .has-bits) (a .bits .now)) n 0 s ≡ fedBlock (placeDue m (a .slot .0) (a .has-bits) (a .bits .now)) n 0 s =
-    ap (λ (z : ℤ). sentBlock (dueAfter z (a .slot .0) (a .has-bits) (a .bits .now)) n 0 s) (first-is u)
-    ∙ filled m (a .slot .0) (a .has-bits) (a .bits .now) (accepted u) n s (omega (arith, l .left .ensures, c .before .before .before .before .if3 .taken)) in
-    rw e (c .before .before .send .ensures)
+    let due = placeDue m (a .slot .0) (a .has-bits) (a .bits .now) in
+    let w = c .before .before .send .ensures in
+    let e : blockCall (dueAfter (a .sample-counter .0) (a .slot .0) (a .has-bits) (a .bits .now)) n s ≡ fedBlock due n 0 s =
+    ap (λ (z : ℤ). blockCall (dueAfter z (a .slot .0) (a .has-bits) (a .bits .now)) n s) (first-is u)
+    ∙ room-called _ n s (room u)
+    ∙ filled m (a .slot .0) (a .has-bits) (a .bits .now) (accepted u) n s (omega (arith, l .left .ensures, c .before .before .before .before .if2 .taken)) in
+    (rw e w, λ z. absurd (omega (arith, z, room u, fed-count due n 0 _ _ s _ _ _ w)))
 
 end-refusal-requires : tie.Need-end-refusal-requires
 end-refusal-requires c κs =
     let l = c .before in
-    omega (arith, count-within (l .before .unsigned .result) (l .before .before .before .before .before .before .before .before .before .args .slot .0) (small (l .before)), l .left .ensures)
+    omega (arith, count-within (l .before .unsigned .result) (l .before .before .before .before .before .before .before .args .slot .0) (small (l .before)), l .left .ensures)
 
 send-requires-2 : tie.Need-send-requires-2
 send-requires-2 c κs =
     let l = c .before .before .before in
-    (omega (arith, c .before .before .if3 .left), omega (arith, count-within (l .before .unsigned .result) (l .before .before .before .before .before .before .before .before .before .args .slot .0) (small (l .before)), l .left .ensures), bits-are (l .before))
+    (omega (arith, c .before .before .if2 .left), omega (arith, count-within (l .before .unsigned .result) (l .before .before .before .before .before .before .before .args .slot .0) (small (l .before)), l .left .ensures), bits-are (l .before))
 
 same-length-2 : tie.Need-same-length-2
 same-length-2 c = search needs
 
-returns-4 : tie.Need-returns-4
-returns-4 c =
-    let a = c .before .before .before .before .before .before .before .before .before .before .before .before .before .before .before .args in
+returns-3 : tie.Need-returns-3
+returns-3 c =
+    let a = c .before .before .before .before .before .before .before .before .before .before .before .before .before .args in
     let l = c .before .before .before .before .before .before in
     let u = l .before in
     let m = u .unsigned .result in
@@ -108,25 +114,26 @@ returns-4 c =
     let n = length (a .out .now) / 2 in
     let r = c .before .before .before .before .end-refusal in
     let due = placeDue m (a .slot .0) (a .has-bits) (a .bits .now) in
-    let e : sentBlock (dueAfter (a .sample-counter .0) (a .slot .0) (a .has-bits) (a .bits .now)) n 0 s ≡ fedBlock due (l .left .result) (r .result) s =
-    ap (λ (z : ℤ). sentBlock (dueAfter z (a .slot .0) (a .has-bits) (a .bits .now)) n 0 s) (first-is u)
-    ∙ ended m (a .slot .0) (a .has-bits) (a .bits .now) (accepted u) n (r .result) s (omega (arith, l .left .ensures, c .before .before .before .before .before .if3 .left)) (count-within m (a .slot .0) (small u)) (rw (l .left .ensures) at (r .ensures))
+    let w = c .before .before .send2 .ensures in
+    let e : blockCall (dueAfter (a .sample-counter .0) (a .slot .0) (a .has-bits) (a .bits .now)) n s ≡ fedBlock due (l .left .result) (r .result) s =
+    ap (λ (z : ℤ). blockCall (dueAfter z (a .slot .0) (a .has-bits) (a .bits .now)) n s) (first-is u)
+    ∙ room-called _ n s (room u)
+    ∙ ended m (a .slot .0) (a .has-bits) (a .bits .now) (accepted u) n (r .result) s (omega (arith, l .left .ensures, c .before .before .before .before .before .if2 .left)) (count-within m (a .slot .0) (small u)) (rw (l .left .ensures) at (r .ensures))
     ∙ ap (λ (k : ℕ). fedBlock due k (r .result) s) (sym (l .left .ensures)) in
-    rw e (c .before .before .send2 .ensures)
+    (rw e w, λ z. absurd (omega (arith, z, l .left .ensures, left u, fed-count due (l .left .result) (r .result) _ _ s _ _ _ w)))
 
 pub block-spec : {M : Type 1} → statement M
 block-spec =
     tie.close
     (tie.spec
+    refusal-now-requires
     returns
-    input-refusal-requires
-    returns-2
     unsigned-requires
     left-requires
     send-requires
     same-length
-    returns-3
+    returns-2
     end-refusal-requires
     send-requires-2
     same-length-2
-    returns-4)
+    returns-3)

@@ -1,5 +1,7 @@
 -- `Modulator::feed` meets its contract: a case for each variant.
+use mathlib.Core.Path.{refl, sym, _∙_}
 use Rattle.modulator.specs.Sender.{told, toldOf, nextLine}
+use Rattle.modulator.proofs.Steps.{silence-sends, symbol-sends}
 use borrow.Author.Needs.{needs}
 use Rattle.modulator.proofs.sender.Modulator.feed.Statement.{statement}
 use Rattle.modulator.proofs.sender.Modulator.feed.Tie as tie
@@ -22,17 +24,19 @@ shape-requires-2 c κs = search needs
 returns : tie.Need-returns
 unfolding told toldOf nextLine
 returns c =
-    (rw (c .before .due .given .1), rw (c .before .due .given .1))
+    (rw (c .before .due .given .1), rw (c .before .due .given .1), λ n e. refl)
 
 returns-2 : tie.Need-returns-2
 unfolding toldOf nextLine
 returns-2 c =
-    (rw (c .before .enum-told .given .1) (c .shape .ensures .0), rw (c .before .enum-told .given .1) (c .shape .ensures .1))
+    let d = c .before .enum-told .given .1 in
+    (rw d (c .shape .ensures .0), rw d (c .shape .ensures .1), λ n e. absurd (silence-sends n (sym d ∙ e)))
 
 returns-3 : tie.Need-returns-3
 unfolding toldOf nextLine
 returns-3 c =
-    (rw (c .before .enum-told2 .given .1) (c .shape2 .ensures .0), rw (c .before .enum-told2 .given .1) (c .shape2 .ensures .1))
+    let d = c .before .enum-told2 .given .1 in
+    (rw d (c .shape2 .ensures .0), rw d (c .shape2 .ensures .1), λ n e. absurd (symbol-sends _ _ n (sym d ∙ e)))
 
 pub feed-spec : {M : Type 1} → statement M
 feed-spec =
