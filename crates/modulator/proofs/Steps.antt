@@ -1,7 +1,7 @@
 -- A call, from what is due, what it makes of the phase, and what the filter makes of it. Assumes nothing.
 use mathlib.Core.Path.{_≡_, refl, sym, ap, _∙_}
 use mathlib.Core.Bool.{Bool}
-use mathlib.Core.List.{List}
+use mathlib.Core.List.{List, [], _∷_}
 use Prim.Native.Nat.{ℕ}
 use native.Mathlib.Omega.{arith}
 use lib.ListN.{length}
@@ -16,6 +16,20 @@ use Rattle.modulator.specs.declared.sender.Sampled.{Sampled}
 use Rattle.modulator.specs.declared.sender.Modulator.{Modulator}
 use Rattle.modulator.specs.Dqpsk.{phaseAfter, inputOf}
 use Rattle.modulator.specs.Sender.{Told, told, shapedOf, toldOf, nextLine, senderOf, tells, after, fedBy}
+
+-- ---- `told` tells all answers apart
+
+answerOf : ℕ → List ComplexSample → Answer
+answerOf n [] = answer.Refused n
+answerOf n (x ∷ xs) = answer.Sample (x .re) (x .im)
+
+answer-back : (a : Answer) → answerOf (told a .number) (told a .samples) ≡ a
+unfolding told answerOf
+answer-back (answer.Sample re im) = refl
+answer-back (answer.Refused n) = refl
+
+pub told-apart : (a b : Answer) → told a ≡ told b → a ≡ b
+told-apart a b e = sym (answer-back a) ∙ ap (λ (t : Told). answerOf (t .number) (t .samples)) e ∙ answer-back b
 
 -- ---- a refusal is no sample
 

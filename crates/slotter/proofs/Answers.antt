@@ -1,13 +1,38 @@
 -- A builder's answer from its parts.
 use mathlib.Core.Path.{_≡_, refl, sym, ap, _∙_}
-use mathlib.Core.List.{List, _++_}
+use mathlib.Core.List.{List, [], _∷_, _++_}
 use Prim.Native.Nat.{ℕ, zero, suc}
 use lib.IntN.{ℤ}
 use lib.ListN.{take, drop}
-use Rattle.slotter.specs.declared.Answer.the-variants.{Built}
+use Rattle.slotter.specs.declared.Burst.{Burst}
+use Rattle.slotter.specs.declared.Answer.{Answer}
+use Rattle.slotter.specs.declared.Answer.the-variants.{Built, Refused}
 use Rattle.train_consts.specs.Training.{normal3}
 use Rattle.slotter.specs.Phases.{phaseSum, adjustment}
 use Rattle.slotter.specs.Bursts.{firstWindow, lastWindow, downlink, Told, told, refusal, answered}
+
+-- ---- `told` tells all answers apart
+
+answerOf : ℕ → List ℤ → Answer
+answerOf n [] = Refused n
+answerOf n (first ∷ []) = Refused n
+answerOf n (first ∷ last ∷ sums) = Built first last
+
+burstOf : Told → Burst
+burstOf t = record { answer = answerOf (t .number) (t .sums); bits = t .bits }
+
+burst-back : (burst : Burst) → burstOf (told burst) ≡ burst
+unfolding told answerOf burstOf
+burst-back burst = go (burst .answer) (burst .bits)
+  where
+    go : (answer : Answer) (bits : List ℕ) → burstOf (told (record { answer = answer; bits = bits })) ≡ record { answer = answer; bits = bits }
+    go (Built first last) bits = refl
+    go (Refused n) bits = refl
+
+pub told-apart : (a b : Burst) → told a ≡ told b → a ≡ b
+told-apart a b e = sym (burst-back a) ∙ ap burstOf e ∙ burst-back b
+
+-- ---- an answer from its parts
 
 -- the burst of those fields, from its sums and its adjustment bits
 pub built : (last : ℕ) (fields : List ℕ) {a b : ℤ} {x y bits : List ℕ} → a ≡ phaseSum (firstWindow last fields) → b ≡ phaseSum (lastWindow last fields)
