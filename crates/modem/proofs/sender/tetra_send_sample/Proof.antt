@@ -1,5 +1,5 @@
 -- `tetra_send_sample` meets its contract: the step's, in numbers.
-use mathlib.Core.Path.{_≡_, refl, sym, _∙_, ap}
+use mathlib.Core.Path.{_≡_, refl, _∙_, ap}
 use Prim.Native.Nat.{ℕ}
 use mir.Syntax.{w64}
 use mir.ValLaws.{toZ-ofZ}

@@ -1,5 +1,5 @@
 -- `due::refusal_now` meets its contract: a case for each variant.
-use mathlib.Core.Path.{sym, ap, _∙_}
+use mathlib.Core.Path.{sym}
 use Rattle.modulator.specs.Sender.{refusalOf}
 use borrow.Author.Needs.{needs}
 use Rattle.modulator.proofs.due.refusal_now.Statement.{statement}
