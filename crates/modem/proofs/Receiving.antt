@@ -1,13 +1,16 @@
 -- The receiver's calls from C: a mode's number, and an answer by its number. Assumes nothing.
 use mathlib.Core.Path.{_≡_, refl}
-use Prim.Native.Nat.{ℕ}
+use mathlib.Core.List.{[]}
+use Prim.Native.Nat.{ℕ, zero, suc}
+use native.Mathlib.Omega.{arith}
 use borrow.Author.Tests.{ne-eqb}
 use Rattle.demodulator.specs.declared.Mode.the-variants.{Idle, DlUnsynchronized, Dl, Ul}
 use Rattle.demodulator.specs.declared.take.TakeAnswer.{TakeAnswer}
 use Rattle.demodulator.specs.declared.take.TakeAnswer.the-variants as TakeAnswer
 use Rattle.demodulator.specs.declared.process.Answer.{Answer}
 use Rattle.demodulator.specs.declared.process.Answer.the-variants as Answer
-use Rattle.demodulator.specs.Calls.{replyOf, takeReplyOf}
+use Rattle.demodulator.specs.Receiver.{Receiver}
+use Rattle.demodulator.specs.Calls.{refused, unless, followRefusal, followed, followOutcome, replyOf, takeReplyOf}
 use Rattle.demodulator.specs.View.{modeOf}
 use Rattle.modem.specs.Receive.{refusalOf}
 
@@ -41,3 +44,13 @@ pub by-take-refusal : {A : Type 0} (a : TakeAnswer) → (refusalOf (takeReplyOf 
 unfolding refusalOf takeReplyOf
 by-take-refusal (TakeAnswer.Slot s) h f = absurd (h refl)
 by-take-refusal (TakeAnswer.Refused n) h f = f n refl
+
+-- an order to follow whose number is 0 was accepted
+pub followed-on : (r other : Receiver) (a : Answer) → replyOf a ≡ followOutcome r other .reply → refusalOf (replyOf a) ≡ 0 → a ≡ Answer.Accepted
+unfolding followOutcome unless followed replyOf refusalOf
+followed-on r other Answer.Accepted e h = refl
+followed-on r other (Answer.Refused n) e h = go (followRefusal (r .mode)) e
+  where
+    go : (k : ℕ) → refused n ≡ unless k r [] (followed r other) .reply → Answer.Refused n ≡ Answer.Accepted
+    go zero f = absurd (let z : _≡_ {A = ℕ} 0 1 = cc in omega arith)
+    go (suc k) f = let z : n ≡ suc k = cc in absurd (omega arith)

@@ -3,6 +3,7 @@ use mathlib.Core.Path.{_≡_, sym, ap, _∙_}
 use lib.IntN.{ℤ}
 use mir.Syntax.{w64}
 use mir.ValLaws.{toZ-ofZ}
+use Rattle.dsp_types.specs.declared.ComplexSample.{ComplexSample}
 use Rattle.demodulator.specs.Calls.{sampleOutcome}
 use Rattle.demodulator.specs.View.{receiverOf}
 use Rattle.modem.specs.Receive.{refusalOf}
@@ -23,7 +24,7 @@ returns c =
     let a = s .args in
     let r = receiverOf (a .state) (a .past-re .now) (a .past-im .now) (a .past-abs .now) in
     let e = toZ-ofZ w64 _ (s .fits .counter) in
-    let x = record { re = a .re; im = a .im } in (
+    let x : ComplexSample = record { re = a .re; im = a .im } in (
       c .answer-number .ensures ∙ ap refusalOf (d .ensures .0 ∙ ap (λ (z : ℤ). sampleOutcome r x z .reply) e),
       (d .ensures .1 .0 ∙ ap (λ (z : ℤ). sampleOutcome r x z .receiver) e, λ h. by-refusal (d .result .answer) (λ z. h (c .answer-number .ensures ∙ z)) (d .ensures .1 .1)),
     )
