@@ -102,7 +102,7 @@ static void channel(void)
 }
 
 /* Logs a slot of the downlink. The receiver numbers from 1 on: `first` is the slot that it calls 1. */
-static void log_slot(const struct tetra_taken *taken, const uint8_t *bits, uint32_t *first)
+static void log_slot(const struct tetra_slot *taken, const uint8_t *bits, uint32_t *first)
 {
     uint32_t slot;
 
@@ -111,11 +111,11 @@ static void log_slot(const struct tetra_taken *taken, const uint8_t *bits, uint3
             ;
         *first = slot;
     }
-    slot = taken->number + *first - 1;
+    slot = taken->time + *first - 1;
     if (slot < SLOTS && (taken->full.train_type != types[slot] || memcmp(bits, sent[slot], TETRA_SLOT_BITS) != 0))
         fault("not received as sent", slot);
     if (slot < 5)
-        printf("downlink slot %u: type %u, %u errors\n", (unsigned)taken->number, (unsigned)taken->full.train_type,
+        printf("downlink slot %u: type %u, %u errors\n", (unsigned)taken->time, (unsigned)taken->full.train_type,
                (unsigned)taken->full.train_errs);
 }
 
@@ -126,21 +126,19 @@ static size_t feed(struct tetra_receiver *receiver, const float *block, size_t c
     size_t done = 0, slots = 0;
 
     while (done < count) {
-        struct tetra_fed fed = tetra_feed(*receiver, block + 2 * done, 2 * (count - done), (int64_t)(counter + done));
+        struct tetra_fed fed = tetra_feed(receiver, block + 2 * done, count - done, (int64_t)(counter + done));
 
-        *receiver = fed.receiver;
         done += fed.taken;
         if (fed.refusal != 0) {
             fault("a sample is refused", (uint32_t)(counter + done));
             done++;
         }
         if (fed.slot) {
-            struct tetra_taken taken = tetra_take(*receiver, slot, sizeof slot, half1, sizeof half1, half2, sizeof half2);
+            struct tetra_taken taken = tetra_take(receiver, slot, sizeof slot, half1, sizeof half1, half2, sizeof half2);
 
-            *receiver = taken.receiver;
             slots++;
             if (first != NULL)
-                log_slot(&taken, slot, first);
+                log_slot(&taken.slot, slot, first);
         }
     }
     return slots;
@@ -148,19 +146,21 @@ static size_t feed(struct tetra_receiver *receiver, const float *block, size_t c
 
 int main(void)
 {
-    struct tetra_receiver downlink = tetra_receiver_new(TETRA_MODE_DL_SEARCHING);
-    struct tetra_receiver uplink = tetra_receiver_new(TETRA_MODE_IDLE);
+    static struct tetra_receiver downlink, uplink;
     static const float quiet[2 * BLOCK];
     size_t down = 0, up = 0;
     uint32_t first = SLOTS;
 
+    tetra_receiver_init(&downlink, TETRA_MODE_DL_SEARCHING);
+    tetra_receiver_init(&uplink, TETRA_MODE_IDLE);
     send_all();
     channel();
     for (size_t at = 0; at < samples; at += BLOCK) {
         size_t count = samples - at < BLOCK ? samples - at : BLOCK;
 
         down += feed(&downlink, air + 2 * at, count, at, &first);
-        uplink = tetra_follow(uplink, downlink).receiver;
+        if (tetra_follow(&uplink, &downlink) != TETRA_ACCEPTED)
+            fault("the uplink does not follow", (uint32_t)at);
         up += feed(&uplink, quiet, count, at, NULL);
     }
     printf("%zu downlink slots from slot %u on, %zu uplink slots, %d faults\n", down, (unsigned)first, up, faults);

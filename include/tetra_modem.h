@@ -5,12 +5,12 @@
  * same call. Within that, every call returns for every input. The library keeps no state of its own, allocates nothing, and
  * its calls may run in several threads at once.
  *
- * A receiver is a struct of 26,552 bytes, a sender one of 260, that goes in by value; the next one comes back. A call
- * neither keeps nor changes the one that it was given. Keep a receiver as it was returned: then each answer is what the contracts say of the calls
- * made so far. A struct with other numbers is safe too: where a call works with a number that no call could have left, it
- * counts as a valid one (a mode above 3 as Idle, a time out of range as 0, the current slot modulo its range, a view that
- * does not fit as empty). Only the flags of type bool must hold 0 or 1. A call needs less than 320 KB of stack, its
- * arguments and its result included.
+ * A receiver lives in the caller's memory, 26,536 bytes, and its calls take a pointer to it; several receivers share nothing.
+ * A sender is a struct of 260 bytes that goes in by value; the next one comes back. Leave both as the calls leave them: then
+ * each answer is what the contracts say of the calls made so far. A struct with other numbers is safe too: a number that no
+ * call could have left counts as a valid one (a mode above 3 as Idle, a time out of range as 0, a slot number modulo its
+ * range, a view that does not fit its window as none, a bit byte modulo 2). Only the flags of type bool must hold 0 or 1. A
+ * call needs less than 64 KB of stack.
  */
 #ifndef TETRA_MODEM_H
 #define TETRA_MODEM_H
@@ -23,8 +23,8 @@
 extern "C" {
 #endif
 
-/* 0, or the number of a refusal, the smallest that holds. A refused call writes no lent byte, and the receiver or
- * sender that it returns is the one that it was given. */
+/* 0, or the number of a refusal, the smallest that holds. A refused call writes no lent byte, and leaves the receiver or
+ * returns the sender as it was. */
 #define TETRA_ACCEPTED 0u
 #define TETRA_BAD_SAMPLE 1u     /* a sample part is NaN, infinite, or beyond 1,024 either side of zero */
 #define TETRA_BAD_COUNTER 2u    /* a sample counter is below 0 or above 137,438,953,471 */
@@ -59,16 +59,23 @@ extern "C" {
 #define TETRA_ANSWER_BYTES 6u
 #define TETRA_SLOT_BITS 510u
 #define TETRA_HALF_SLOT_BITS 254u
-#define TETRA_RECEIVER_BYTES 26552u
+#define TETRA_STATE_BYTES 1960u
+#define TETRA_PAST 2048u
 
-/* A window's bits and the burst found in them. */
-struct tetra_finder {
-    uint8_t bits[510];
-    size_t bits_len;
-    uint8_t train_type;
-    size_t train_errs;
-    size_t burst_pos;
-    size_t burst_len;
+/* A burst that was found in a window: a view of the window's bits. */
+struct tetra_burst {
+    uint8_t train_type; /* its burst type */
+    size_t train_errs;  /* wrong bits in its training sequence (0 or 1), 100 where there is no burst */
+    size_t burst_pos;   /* its place in the window's bits */
+    size_t burst_len;   /* how many bits it has: 510, 462 or 206, or 0 where there is no burst */
+};
+
+/* A slot that was handed over: its number, 0 to 283,115,519, and the bursts in it and, of an uplink receiver, in its halves. */
+struct tetra_slot {
+    uint32_t time;
+    struct tetra_burst full;
+    struct tetra_burst subslot1;
+    struct tetra_burst subslot2;
 };
 
 /* The newest 32 samples, oldest first. */
@@ -77,8 +84,9 @@ struct tetra_filter {
     float im[32];
 };
 
-/* A receiver's state. To be read, if at all: a caller need write none of it. */
-struct tetra_receiver {
+/* All of a receiver but its past. To be read, if at all: a caller need write none of it. The bits are those of the windows of
+ * the slot that was handed over last, one byte a bit, 510 of the slot and 254 of each half: what tetra_judge judges. */
+struct tetra_state {
     uint8_t mode;
     int64_t reference_time;
     int64_t slot_ready_time;
@@ -86,53 +94,44 @@ struct tetra_receiver {
     int64_t next_input_sample_count;
     float averaged_timing_error;
     uint32_t slots_since_last_valid_burst;
-    uint32_t demodulated_slot_time;
     bool demodulated_slot_available;
-    struct tetra_finder full_slot;
-    struct tetra_finder subslot1;
-    struct tetra_finder subslot2;
+    struct tetra_slot demodulated_slot;
+    uint8_t full_bits[510];
+    uint8_t subslot1_bits[510];
+    uint8_t subslot2_bits[510];
     struct tetra_filter matched_filter;
-    float past_re[2048];
-    float past_im[2048];
-    float past_abs[2048];
     size_t past_index;
 };
 
-#ifdef __cplusplus
-static_assert(sizeof(struct tetra_receiver) == TETRA_RECEIVER_BYTES, "the library's layout of a receiver");
-#elif defined(__STDC_VERSION__) && __STDC_VERSION__ >= 201112L
-_Static_assert(sizeof(struct tetra_receiver) == TETRA_RECEIVER_BYTES, "the library's layout of a receiver");
-#endif
-
-/* A refusal or 0, and the next receiver. */
-struct tetra_received {
-    uint32_t refusal;
-    struct tetra_receiver receiver;
+/* The newest 2,048 filtered samples and their magnitudes, in rings whose newest element stands at past_index. */
+struct tetra_past {
+    float re[TETRA_PAST];
+    float im[TETRA_PAST];
+    float abs[TETRA_PAST];
 };
+
+struct tetra_receiver {
+    struct tetra_state state;
+    struct tetra_past past;
+};
+
+#ifdef __cplusplus
+static_assert(sizeof(struct tetra_state) == TETRA_STATE_BYTES, "the library's layout of a state");
+#elif defined(__STDC_VERSION__) && __STDC_VERSION__ >= 201112L
+_Static_assert(sizeof(struct tetra_state) == TETRA_STATE_BYTES, "the library's layout of a state");
+#endif
 
 /* What a block of samples came to. */
 struct tetra_fed {
     size_t taken;     /* so many samples were taken */
     bool slot;        /* whether the last of them handed a slot over */
     uint32_t refusal; /* the refusal of the next sample, or 0 */
-    struct tetra_receiver receiver;
 };
 
-/* What is told of a burst view. */
-struct tetra_view {
-    uint8_t train_type; /* its burst type */
-    size_t train_errs;  /* wrong bits in its training sequence (0 or 1), 100 where there is no burst */
-    size_t burst_len;   /* how many lent bytes it fills: 510, 462 or 206, or 0 where there is no burst */
-};
-
-/* A slot that was taken, or the refusal; then number and views are 0. */
+/* A slot that was taken, or the refusal; then the slot is all zeros. */
 struct tetra_taken {
     uint32_t refusal;
-    uint32_t number; /* the slot's number, 0 to 283,115,519 */
-    struct tetra_view full;
-    struct tetra_view subslot1;
-    struct tetra_view subslot2;
-    struct tetra_receiver receiver;
+    struct tetra_slot slot;
 };
 
 /* A sender's state: the filter line, and the phase of the last symbol in eighths of a turn (any number counts modulo 8). */
@@ -156,13 +155,57 @@ struct tetra_sent_sample {
     struct tetra_sender sender;
 };
 
-/* A new receiver.
+/* ---- The library's own calls on a receiver: its state goes by value and the next one comes back, its past is lent. The calls
+ * below these are what a gateway uses. */
+
+struct tetra_state_answered {
+    uint32_t refusal;
+    struct tetra_state state;
+};
+
+struct tetra_state_fed {
+    size_t taken;
+    bool slot;
+    uint32_t refusal;
+    struct tetra_state state;
+};
+
+struct tetra_state_taken {
+    uint32_t refusal;
+    struct tetra_slot slot;
+    struct tetra_state state;
+};
+
+struct tetra_state tetra_state_new(uint32_t mode);
+
+struct tetra_state_answered tetra_state_sample(struct tetra_state state, float *past_re, float *past_im, float *past_abs,
+                                               float re, float im, int64_t counter);
+
+struct tetra_state_fed tetra_state_feed(struct tetra_state state, float *past_re, float *past_im, float *past_abs,
+                                        const float *samples, size_t samples_len, int64_t first);
+
+struct tetra_state_taken tetra_state_take(struct tetra_state state, uint8_t *slot, size_t slot_len, uint8_t *subslot1,
+                                          size_t subslot1_len, uint8_t *subslot2, size_t subslot2_len);
+
+struct tetra_state_answered tetra_state_follow(struct tetra_state state, struct tetra_state other);
+
+/* ---- Receivers */
+
+/* Makes a receiver anew.
  *
  * mode: one of TETRA_MODE_..; any other number counts as Idle. A downlink receiver starts with TETRA_MODE_DL_SEARCHING, an
  *   uplink one with TETRA_MODE_IDLE and then tetra_follow.
  * Cost: the struct is filled once; under a microsecond.
  */
-struct tetra_receiver tetra_receiver_new(uint32_t mode);
+static inline void tetra_receiver_init(struct tetra_receiver *receiver, uint32_t mode)
+{
+    receiver->state = tetra_state_new(mode);
+    for (size_t i = 0; i < TETRA_PAST; i++) {
+        receiver->past.re[i] = 0.0f;
+        receiver->past.im[i] = 0.0f;
+        receiver->past.abs[i] = 0.0f;
+    }
+}
 
 /* Takes one sample.
  *
@@ -170,22 +213,37 @@ struct tetra_receiver tetra_receiver_new(uint32_t mode);
  * counter: its number, at least the one after the last accepted sample (0 when new). Where samples are missing in between,
  *   zeros stand in for at most the last 1,020 of them.
  *
- * The refusal is 0, 1, 2 or 10. A slot may be handed over: tetra_take tells.
- * Cost: two or three microseconds, since the struct is copied a few times: tetra_feed is much faster for a row of samples.
+ * Returns the refusal, 0, 1, 2 or 10. A slot may be handed over: tetra_take tells.
+ * Cost: a fraction of a microsecond, since the state is copied a few times: tetra_feed is much faster for a row of samples.
  *   At a window's close some 1,000 samples are read again. A missing sample that zeros stand in for is filtered as one given.
  */
-struct tetra_received tetra_sample(struct tetra_receiver receiver, float re, float im, int64_t counter);
+static inline uint32_t tetra_sample(struct tetra_receiver *receiver, float re, float im, int64_t counter)
+{
+    struct tetra_state_answered answered = tetra_state_sample(receiver->state, receiver->past.re, receiver->past.im,
+                                                              receiver->past.abs, re, im, counter);
+
+    receiver->state = answered.state;
+    return answered.refusal;
+}
 
 /* Takes samples from a block, as tetra_sample would one by one: up to the first that hands a slot over, and no refused one.
  *
- * samples: re and im in turn. A left-over part at the end is not taken.
+ * samples: n of them, re and im in turn: 2 n floats.
  * first: the counter of the first sample; the others have the next ones.
  *
  * Where `slot` is true the slot waits: take it, then feed what is left, from samples + 2 * taken and first + taken on.
  * Where `refusal` is not 0 (1, 2 or 10) the sample at `taken` is refused. Otherwise all samples were taken.
- * Cost: some two microseconds for the struct, then 10 to 15 nanoseconds a sample taken, windows included.
+ * Cost: some 10 to 15 nanoseconds a sample taken, windows included.
  */
-struct tetra_fed tetra_feed(struct tetra_receiver receiver, const float *samples, size_t samples_len, int64_t first);
+static inline struct tetra_fed tetra_feed(struct tetra_receiver *receiver, const float *samples, size_t n, int64_t first)
+{
+    struct tetra_state_fed fed = tetra_state_feed(receiver->state, receiver->past.re, receiver->past.im, receiver->past.abs,
+                                                  samples, 2 * n, first);
+    struct tetra_fed told = { fed.taken, fed.slot, fed.refusal };
+
+    receiver->state = fed.state;
+    return told;
+}
 
 /* Takes the slot that was handed over last.
  *
@@ -193,10 +251,18 @@ struct tetra_fed tetra_feed(struct tetra_receiver receiver, const float *samples
  *   bits and zeros behind them: that of the whole slot and, of an uplink receiver, those of its halves.
  *
  * The refusal is 0, 3 or 11. A slot is taken once, and a slot that is not taken is lost when the next one is handed over.
- * Cost: the lent bytes are filled once, and the struct is copied a few times: some microseconds.
+ * Cost: the lent bytes are filled once, and the state is copied a few times: a fraction of a microsecond.
  */
-struct tetra_taken tetra_take(struct tetra_receiver receiver, uint8_t *slot, size_t slot_len, uint8_t *subslot1,
-                              size_t subslot1_len, uint8_t *subslot2, size_t subslot2_len);
+static inline struct tetra_taken tetra_take(struct tetra_receiver *receiver, uint8_t *slot, size_t slot_len,
+                                            uint8_t *subslot1, size_t subslot1_len, uint8_t *subslot2, size_t subslot2_len)
+{
+    struct tetra_state_taken taken =
+        tetra_state_take(receiver->state, slot, slot_len, subslot1, subslot1_len, subslot2, subslot2_len);
+    struct tetra_taken told = { taken.refusal, taken.slot };
+
+    receiver->state = taken.state;
+    return told;
+}
 
 /* Has an uplink receiver follow the slot timing of a downlink one.
  *
@@ -205,9 +271,17 @@ struct tetra_taken tetra_take(struct tetra_receiver receiver, uint8_t *slot, siz
  *   its reference time, and an Idle one its last slot number too. The other moves its reference time as it tracks its
  *   carrier: give the order again from time to time, as after each slot.
  *
- * The refusal is 0 or 13. Cost: the structs are copied: some microseconds.
+ * Returns the refusal, 0 or 13. Cost: the states are copied a few times: a fraction of a microsecond.
  */
-struct tetra_received tetra_follow(struct tetra_receiver receiver, struct tetra_receiver other);
+static inline uint32_t tetra_follow(struct tetra_receiver *receiver, const struct tetra_receiver *other)
+{
+    struct tetra_state_answered answered = tetra_state_follow(receiver->state, other->state);
+
+    receiver->state = answered.state;
+    return answered.refusal;
+}
+
+/* ---- Senders */
 
 /* A new sender: nothing sent so far, phase 0. Cost: the struct is filled once. */
 struct tetra_sender tetra_sender_new(void);
@@ -232,11 +306,14 @@ struct tetra_sent_sample tetra_send_sample(struct tetra_sender sender, int64_t c
  * slot, has_bits, bits, bits_len: as above.
  * out: room for the samples, re and im in turn. What is behind the samples written is left as it was.
  *
- * `count` samples were written. Where `refusal` is not 0 the next sample is refused by it; 12 at the end of the slot.
+ * `count` samples were written. Where `refusal` is not 0 the next sample is refused by it; 12 at the end of the slot. A call
+ * with room for no sample is refused as the first sample would be.
  * Cost: the bits are checked once, then some 10 nanoseconds a sample.
  */
 struct tetra_sent tetra_send(struct tetra_sender sender, int64_t first, uint32_t slot, uint32_t has_bits, const uint8_t *bits,
                              size_t bits_len, float *out, size_t out_len);
+
+/* ---- Burst builders */
 
 /* Builds a synchronization burst (EN 300 392-2, 9.4.4.2.6).
  *
@@ -258,6 +335,8 @@ uint32_t tetra_build_sync(const uint8_t *blk1, size_t blk1_len, const uint8_t *b
  */
 uint32_t tetra_build_normal(uint32_t train, const uint8_t *blk1, size_t blk1_len, const uint8_t *bbk, size_t bbk_len,
                             const uint8_t *blk2, size_t blk2_len, uint8_t *bits, size_t bits_len);
+
+/* ---- The call logger */
 
 /* Judges a window's kept bits again, as the receiver judged them.
  *

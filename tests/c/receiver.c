@@ -135,18 +135,24 @@ static void not_built(void)
 
 /* ---- states */
 
-static void same_finder(const char *what, const struct tetra_finder *a, const struct tetra_finder *b)
+static void same_burst(const char *what, const struct tetra_burst *a, const struct tetra_burst *b)
 {
-    expect(what, memcmp(a->bits, b->bits, sizeof a->bits), 0);
-    expect(what, (int64_t)a->bits_len, (int64_t)b->bits_len);
     expect(what, a->train_type, b->train_type);
     expect(what, (int64_t)a->train_errs, (int64_t)b->train_errs);
     expect(what, (int64_t)a->burst_pos, (int64_t)b->burst_pos);
     expect(what, (int64_t)a->burst_len, (int64_t)b->burst_len);
 }
 
+static void same_slot(const char *what, const struct tetra_slot *a, const struct tetra_slot *b)
+{
+    expect(what, a->time, b->time);
+    same_burst(what, &a->full, &b->full);
+    same_burst(what, &a->subslot1, &b->subslot1);
+    same_burst(what, &a->subslot2, &b->subslot2);
+}
+
 /* Field by field, since the bytes between fields are anybody's. */
-static void same(const char *what, const struct tetra_receiver *a, const struct tetra_receiver *b)
+static void same_state(const char *what, const struct tetra_state *a, const struct tetra_state *b)
 {
     expect(what, a->mode, b->mode);
     expect(what, a->reference_time, b->reference_time);
@@ -155,16 +161,27 @@ static void same(const char *what, const struct tetra_receiver *a, const struct 
     expect(what, a->next_input_sample_count, b->next_input_sample_count);
     expect(what, memcmp(&a->averaged_timing_error, &b->averaged_timing_error, sizeof(float)), 0);
     expect(what, a->slots_since_last_valid_burst, b->slots_since_last_valid_burst);
-    expect(what, a->demodulated_slot_time, b->demodulated_slot_time);
     expect(what, a->demodulated_slot_available, b->demodulated_slot_available);
-    same_finder(what, &a->full_slot, &b->full_slot);
-    same_finder(what, &a->subslot1, &b->subslot1);
-    same_finder(what, &a->subslot2, &b->subslot2);
+    same_slot(what, &a->demodulated_slot, &b->demodulated_slot);
+    expect(what, memcmp(a->full_bits, b->full_bits, sizeof a->full_bits), 0);
+    expect(what, memcmp(a->subslot1_bits, b->subslot1_bits, sizeof a->subslot1_bits), 0);
+    expect(what, memcmp(a->subslot2_bits, b->subslot2_bits, sizeof a->subslot2_bits), 0);
     expect(what, memcmp(&a->matched_filter, &b->matched_filter, sizeof a->matched_filter), 0);
-    expect(what, memcmp(a->past_re, b->past_re, sizeof a->past_re), 0);
-    expect(what, memcmp(a->past_im, b->past_im, sizeof a->past_im), 0);
-    expect(what, memcmp(a->past_abs, b->past_abs, sizeof a->past_abs), 0);
     expect(what, (int64_t)a->past_index, (int64_t)b->past_index);
+}
+
+static void same(const char *what, const struct tetra_receiver *a, const struct tetra_receiver *b)
+{
+    same_state(what, &a->state, &b->state);
+    expect(what, memcmp(&a->past, &b->past, sizeof a->past), 0);
+}
+
+static struct tetra_receiver new_receiver(uint32_t mode)
+{
+    struct tetra_receiver r;
+
+    tetra_receiver_init(&r, mode);
+    return r;
 }
 
 static void zeros(const char *what, const float *f, size_t n)
@@ -181,30 +198,32 @@ static void layout(void)
         uint8_t behind[64];
     } box;
 
-    expect("bytes of a receiver", sizeof(struct tetra_receiver), TETRA_RECEIVER_BYTES);
+    expect("bytes of a state", sizeof(struct tetra_state), TETRA_STATE_BYTES);
     for (uint32_t mode = 0; mode < 6; mode++) {
+        struct tetra_state *state = &box.receiver.state;
+
         memset(&box, KEPT, sizeof box);
-        box.receiver = tetra_receiver_new(mode);
+        tetra_receiver_init(&box.receiver, mode);
         kept("behind a new receiver", box.behind, 0, sizeof box.behind);
-        expect("new, mode", box.receiver.mode, mode < 4 ? mode : 0);
-        expect("new, reference", box.receiver.reference_time, 0);
-        expect("new, ready", box.receiver.slot_ready_time, mode == TETRA_MODE_UL ? 1020 : 1018);
-        expect("new, slot", box.receiver.current_slot, 0);
-        expect("new, next", box.receiver.next_input_sample_count, 0);
-        expect("new, error", box.receiver.averaged_timing_error == 0.0f, 1);
-        expect("new, misses", box.receiver.slots_since_last_valid_burst, 0);
-        expect("new, slot time", box.receiver.demodulated_slot_time, 0);
-        expect("new, available", box.receiver.demodulated_slot_available, 0);
-        expect("new, full", (int64_t)box.receiver.full_slot.train_errs, 100);
-        expect("new, half 1", (int64_t)box.receiver.subslot1.train_errs, 100);
-        expect("new, half 2", (int64_t)box.receiver.subslot2.train_errs, 100);
-        expect("new, half 2, length", (int64_t)box.receiver.subslot2.burst_len, 0);
-        zeros("new, filter", box.receiver.matched_filter.re, 32);
-        zeros("new, filter", box.receiver.matched_filter.im, 32);
-        zeros("new, past", box.receiver.past_re, 2048);
-        zeros("new, past", box.receiver.past_im, 2048);
-        zeros("new, past", box.receiver.past_abs, 2048);
-        expect("new, index", (int64_t)box.receiver.past_index, 0);
+        expect("new, mode", state->mode, mode < 4 ? mode : 0);
+        expect("new, reference", state->reference_time, 0);
+        expect("new, ready", state->slot_ready_time, mode == TETRA_MODE_UL ? 1020 : 1018);
+        expect("new, slot", state->current_slot, 0);
+        expect("new, next", state->next_input_sample_count, 0);
+        expect("new, error", state->averaged_timing_error == 0.0f, 1);
+        expect("new, misses", state->slots_since_last_valid_burst, 0);
+        expect("new, slot time", state->demodulated_slot.time, 0);
+        expect("new, available", state->demodulated_slot_available, 0);
+        expect("new, full", (int64_t)state->demodulated_slot.full.train_errs, 100);
+        expect("new, half 1", (int64_t)state->demodulated_slot.subslot1.train_errs, 100);
+        expect("new, half 2", (int64_t)state->demodulated_slot.subslot2.train_errs, 100);
+        expect("new, half 2, length", (int64_t)state->demodulated_slot.subslot2.burst_len, 0);
+        zeros("new, filter", state->matched_filter.re, 32);
+        zeros("new, filter", state->matched_filter.im, 32);
+        zeros("new, past", box.receiver.past.re, 2048);
+        zeros("new, past", box.receiver.past.im, 2048);
+        zeros("new, past", box.receiver.past.abs, 2048);
+        expect("new, index", (int64_t)state->past_index, 0);
     }
 }
 
@@ -213,25 +232,28 @@ static void layout(void)
 static void refused_sample(const char *what, struct tetra_receiver before, float re, float im, int64_t counter,
                            uint32_t refusal)
 {
-    struct tetra_received got = tetra_sample(before, re, im, counter);
+    struct tetra_receiver after = before;
 
-    expect(what, got.refusal, refusal);
-    same(what, &got.receiver, &before);
+    expect(what, tetra_sample(&after, re, im, counter), refusal);
+    same(what, &after, &before);
+}
+
+static uint32_t sampled(struct tetra_receiver r, float re, float im, int64_t counter)
+{
+    return tetra_sample(&r, re, im, counter);
 }
 
 static void samples(void)
 {
-    struct tetra_receiver r = tetra_receiver_new(TETRA_MODE_DL_SEARCHING);
-    struct tetra_received got = tetra_sample(r, 1.0f, -2.0f, 5);
+    struct tetra_receiver r = new_receiver(TETRA_MODE_DL_SEARCHING);
 
-    expect("a sample", got.refusal, TETRA_ACCEPTED);
-    expect("a sample, next", got.receiver.next_input_sample_count, 6);
-    expect("a sample, re", got.receiver.matched_filter.re[31] == 1.0f, 1);
-    expect("a sample, im", got.receiver.matched_filter.im[31] == -2.0f, 1);
-    expect("five zeros and a sample, index", (int64_t)got.receiver.past_index, 6);
-    expect("a sample, past", got.receiver.past_re[6] != 0.0f && got.receiver.past_im[6] != 0.0f, 1);
-    expect("a sample, magnitude", got.receiver.past_abs[6] > 0.0f, 1);
-    r = got.receiver;
+    expect("a sample", tetra_sample(&r, 1.0f, -2.0f, 5), TETRA_ACCEPTED);
+    expect("a sample, next", r.state.next_input_sample_count, 6);
+    expect("a sample, re", r.state.matched_filter.re[31] == 1.0f, 1);
+    expect("a sample, im", r.state.matched_filter.im[31] == -2.0f, 1);
+    expect("five zeros and a sample, index", (int64_t)r.state.past_index, 6);
+    expect("a sample, past", r.past.re[6] != 0.0f && r.past.im[6] != 0.0f, 1);
+    expect("a sample, magnitude", r.past.abs[6] > 0.0f, 1);
 
     refused_sample("NaN", r, NAN, 0.0f, 6, TETRA_BAD_SAMPLE);
     refused_sample("infinite", r, 0.0f, -INFINITY, 6, TETRA_BAD_SAMPLE);
@@ -239,46 +261,56 @@ static void samples(void)
     refused_sample("counter below 0", r, 0.0f, 0.0f, -1, TETRA_BAD_COUNTER);
     refused_sample("counter too large", r, 0.0f, 0.0f, LARGEST + 1, TETRA_BAD_COUNTER);
     refused_sample("counter again", r, 0.0f, 0.0f, 5, TETRA_PAST_COUNTER);
-    expect("1,024", tetra_sample(r, 1024.0f, -1024.0f, 6).refusal, TETRA_ACCEPTED);
-    expect("the largest counter", tetra_sample(r, 0.0f, 0.0f, LARGEST).refusal, TETRA_ACCEPTED);
+    r.state.mode = 7;
+    r.state.past_index = 5000;
+    refused_sample("numbers that no call left", r, 0.0f, 0.0f, 5, TETRA_PAST_COUNTER);
+    expect("1,024", sampled(r, 1024.0f, -1024.0f, 6), TETRA_ACCEPTED);
+    expect("the largest counter", sampled(r, 0.0f, 0.0f, LARGEST), TETRA_ACCEPTED);
 }
 
 static void blocks(void)
 {
-    struct tetra_receiver r = tetra_receiver_new(TETRA_MODE_DL_SEARCHING);
-    struct tetra_fed fed = tetra_feed(r, quiet, 2 * 10000, 0);
+    const struct tetra_receiver new = new_receiver(TETRA_MODE_DL_SEARCHING);
+    struct tetra_receiver r = new;
+    struct tetra_fed fed = tetra_feed(&r, quiet, 10000, 0);
 
     expect("zeros, taken", (int64_t)fed.taken, 10000);
     expect("zeros, slot", fed.slot, 0);
     expect("zeros, refusal", fed.refusal, TETRA_ACCEPTED);
-    expect("zeros, next", fed.receiver.next_input_sample_count, 10000);
-    expect("zeros, 23 windows", fed.receiver.slot_ready_time, 1018 + 23 * 400);
-    expect("zeros, mode", fed.receiver.mode, TETRA_MODE_DL_SEARCHING);
-    expect("zeros, no slot", fed.receiver.demodulated_slot_available, 0);
+    expect("zeros, next", r.state.next_input_sample_count, 10000);
+    expect("zeros, 23 windows", r.state.slot_ready_time, 1018 + 23 * 400);
+    expect("zeros, mode", r.state.mode, TETRA_MODE_DL_SEARCHING);
+    expect("zeros, no slot", r.state.demodulated_slot_available, 0);
 
-    struct tetra_receiver one = r;
+    struct tetra_receiver one = new;
     for (int64_t i = 0; i < 3000; i++)
-        one = tetra_sample(one, 0.0f, 0.0f, i).receiver;
-    fed = tetra_feed(r, quiet, 2 * 3000 + 1, 0);
-    expect("a left-over part", (int64_t)fed.taken, 3000);
-    same("one by one", &fed.receiver, &one);
+        tetra_sample(&one, 0.0f, 0.0f, i);
+    r = new;
+    struct tetra_state_fed odd = tetra_state_feed(r.state, r.past.re, r.past.im, r.past.abs, quiet, 2 * 3000 + 1, 0);
+    r.state = odd.state;
+    expect("a left-over part", (int64_t)odd.taken, 3000);
+    same("one by one", &r, &one);
 
-    fed = tetra_feed(r, quiet, 0, -7);
+    r = new;
+    fed = tetra_feed(&r, quiet, 0, -7);
     expect("no samples", (int64_t)fed.taken, 0);
     expect("no samples", fed.refusal, TETRA_ACCEPTED);
-    same("no samples", &fed.receiver, &r);
+    same("no samples", &r, &new);
 
     quiet[2 * 1500 + 1] = NAN;
-    fed = tetra_feed(r, quiet, 2 * 3000, 0);
+    fed = tetra_feed(&r, quiet, 3000, 0);
     expect("NaN in a block, taken", (int64_t)fed.taken, 1500);
     expect("NaN in a block, slot", fed.slot, 0);
     expect("NaN in a block, refusal", fed.refusal, TETRA_BAD_SAMPLE);
-    expect("NaN in a block, next", fed.receiver.next_input_sample_count, 1500);
-    fed = tetra_feed(fed.receiver, quiet, 2, 1499);
+    expect("NaN in a block, next", r.state.next_input_sample_count, 1500);
+    one = r;
+    fed = tetra_feed(&r, quiet, 1, 1499);
     expect("a block again, taken", (int64_t)fed.taken, 0);
     expect("a block again, refusal", fed.refusal, TETRA_PAST_COUNTER);
+    same("a block again", &r, &one);
     quiet[2 * 1500 + 1] = 0.0f;
-    fed = tetra_feed(r, quiet, 2 * 10, LARGEST - 3);
+    r = new;
+    fed = tetra_feed(&r, quiet, 10, LARGEST - 3);
     expect("behind the largest counter, taken", (int64_t)fed.taken, 4);
     expect("behind the largest counter, refusal", fed.refusal, TETRA_BAD_COUNTER);
 }
@@ -287,7 +319,7 @@ static void blocks(void)
 
 static uint8_t slot[TETRA_SLOT_BITS + ROOM], half1[TETRA_HALF_SLOT_BITS + ROOM], half2[TETRA_HALF_SLOT_BITS + ROOM];
 
-static struct tetra_taken take(struct tetra_receiver r, size_t a, size_t b, size_t c)
+static struct tetra_taken take(struct tetra_receiver *r, size_t a, size_t b, size_t c)
 {
     memset(slot, KEPT, sizeof slot);
     memset(half1, KEPT, sizeof half1);
@@ -295,23 +327,22 @@ static struct tetra_taken take(struct tetra_receiver r, size_t a, size_t b, size
     return tetra_take(r, slot, a, half1, b, half2, c);
 }
 
-static void view(const char *what, struct tetra_view v, uint8_t type, size_t errors, size_t length)
+static void burst(const char *what, struct tetra_burst b, uint8_t type, size_t errors, size_t place, size_t length)
 {
-    expect(what, v.train_type, type);
-    expect(what, (int64_t)v.train_errs, (int64_t)errors);
-    expect(what, (int64_t)v.burst_len, (int64_t)length);
+    const struct tetra_burst want = { type, errors, place, length };
+
+    same_burst(what, &b, &want);
 }
 
 static void not_taken(const char *what, struct tetra_receiver before, size_t a, size_t b, size_t c, uint32_t refusal)
 {
-    struct tetra_taken got = take(before, a, b, c);
+    static const struct tetra_slot none;
+    struct tetra_receiver after = before;
+    struct tetra_taken got = take(&after, a, b, c);
 
     expect(what, got.refusal, refusal);
-    expect(what, got.number, 0);
-    view(what, got.full, 0, 0, 0);
-    view(what, got.subslot1, 0, 0, 0);
-    view(what, got.subslot2, 0, 0, 0);
-    same(what, &got.receiver, &before);
+    same_slot(what, &got.slot, &none);
+    same(what, &after, &before);
     kept(what, slot, 0, sizeof slot);
     kept(what, half1, 0, sizeof half1);
     kept(what, half2, 0, sizeof half2);
@@ -319,29 +350,25 @@ static void not_taken(const char *what, struct tetra_receiver before, size_t a, 
 
 static void takes(void)
 {
-    struct tetra_receiver r = tetra_receiver_new(TETRA_MODE_DL_SEARCHING);
+    struct tetra_receiver r = new_receiver(TETRA_MODE_DL_SEARCHING);
 
     not_taken("new", r, 510, 254, 254, TETRA_NO_SLOT);
     not_taken("new, wrong length", r, 509, 254, 254, TETRA_BAD_LENGTH);
-    r.demodulated_slot_available = true;
-    r.demodulated_slot_time = 7;
+    r.state.demodulated_slot_available = true;
+    r.state.demodulated_slot.time = 7;
     not_taken("slot's length", r, 511, 254, 254, TETRA_BAD_LENGTH);
     not_taken("first half's length", r, 510, 0, 254, TETRA_BAD_LENGTH);
     not_taken("second half's length", r, 510, 254, 255, TETRA_BAD_LENGTH);
 
     /* bits by hand: a view in the middle of a half, and nothing found in the others */
-    r.subslot1.bits_len = 254;
-    memset(r.subslot1.bits, 1, 254);
-    r.subslot1.train_type = TETRA_EXTENDED;
-    r.subslot1.train_errs = 1;
-    r.subslot1.burst_pos = 4;
-    r.subslot1.burst_len = 206;
-    struct tetra_taken got = take(r, 510, 254, 254);
+    memset(r.state.subslot1_bits, 1, 254);
+    r.state.demodulated_slot.subslot1 = (struct tetra_burst){ TETRA_EXTENDED, 1, 4, 206 };
+    struct tetra_taken got = take(&r, 510, 254, 254);
     expect("taken", got.refusal, TETRA_ACCEPTED);
-    expect("taken, number", got.number, 7);
-    view("taken, full", got.full, TETRA_NONE, 100, 0);
-    view("taken, half 1", got.subslot1, TETRA_EXTENDED, 1, 206);
-    view("taken, half 2", got.subslot2, TETRA_NONE, 100, 0);
+    expect("taken, number", got.slot.time, 7);
+    burst("taken, full", got.slot.full, TETRA_NONE, 100, 0, 0);
+    burst("taken, half 1", got.slot.subslot1, TETRA_EXTENDED, 1, 4, 206);
+    burst("taken, half 2", got.slot.subslot2, TETRA_NONE, 100, 0, 0);
     for (size_t i = 0; i < 510; i++)
         expect("taken, slot", slot[i], 0);
     for (size_t i = 0; i < 254; i++) {
@@ -351,70 +378,92 @@ static void takes(void)
     kept("behind the slot", slot, 510, sizeof slot);
     kept("behind half 1", half1, 254, sizeof half1);
     kept("behind half 2", half2, 254, sizeof half2);
-    expect("taken once", take(got.receiver, 510, 254, 254).refusal, TETRA_NO_SLOT);
+    expect("taken once", take(&r, 510, 254, 254).refusal, TETRA_NO_SLOT);
 }
 
 /* ---- orders to follow */
 
 static void follows(void)
 {
-    struct tetra_receiver other = tetra_receiver_new(TETRA_MODE_DL_SEARCHING);
-    struct tetra_receiver idle = tetra_receiver_new(TETRA_MODE_IDLE);
-    struct tetra_received got = tetra_follow(other, idle);
+    struct tetra_receiver other = new_receiver(TETRA_MODE_DL_SEARCHING), kept_other = other;
+    struct tetra_receiver idle = new_receiver(TETRA_MODE_IDLE), r = idle;
 
-    expect("a searching one", got.refusal, TETRA_NOT_FOLLOWING);
-    same("a searching one", &got.receiver, &other);
+    expect("a searching one", tetra_follow(&other, &idle), TETRA_NOT_FOLLOWING);
+    same("a searching one", &other, &kept_other);
 
-    got = tetra_follow(idle, other);
-    expect("an idle one, of a searching one", got.refusal, TETRA_ACCEPTED);
-    same("an idle one, of a searching one", &got.receiver, &idle);
+    expect("an idle one, of a searching one", tetra_follow(&r, &other), TETRA_ACCEPTED);
+    same("an idle one, of a searching one", &r, &idle);
 
-    other.mode = TETRA_MODE_DL;
-    other.reference_time = 12345;
-    other.demodulated_slot_time = 99;
-    got = tetra_follow(other, idle);
-    expect("a locked one", got.refusal, TETRA_NOT_FOLLOWING);
-    same("a locked one", &got.receiver, &other);
-    got = tetra_follow(idle, other);
-    expect("of a locked one", got.refusal, TETRA_ACCEPTED);
-    expect("of a locked one, mode", got.receiver.mode, TETRA_MODE_UL);
-    expect("of a locked one, reference", got.receiver.reference_time, 12345);
-    expect("of a locked one, slot", got.receiver.current_slot, 99);
-    other.mode = TETRA_MODE_DL_SEARCHING;
-    got = tetra_follow(got.receiver, other);
-    expect("of one that searches again, mode", got.receiver.mode, TETRA_MODE_IDLE);
+    other.state.mode = TETRA_MODE_DL;
+    other.state.reference_time = 12345;
+    other.state.demodulated_slot.time = 99;
+    kept_other = other;
+    expect("a locked one", tetra_follow(&other, &idle), TETRA_NOT_FOLLOWING);
+    same("a locked one", &other, &kept_other);
+    expect("of a locked one", tetra_follow(&r, &other), TETRA_ACCEPTED);
+    expect("of a locked one, mode", r.state.mode, TETRA_MODE_UL);
+    expect("of a locked one, reference", r.state.reference_time, 12345);
+    expect("of a locked one, slot", r.state.current_slot, 99);
+    other.state.mode = TETRA_MODE_DL_SEARCHING;
+    expect("of one that searches again", tetra_follow(&r, &other), TETRA_ACCEPTED);
+    expect("of one that searches again, mode", r.state.mode, TETRA_MODE_IDLE);
 }
 
 /* ---- numbers that no call could have left */
 
+static void any_slot(void)
+{
+    struct tetra_receiver r = new_receiver(TETRA_MODE_UL);
+    struct tetra_slot *handed = &r.state.demodulated_slot;
+    struct tetra_taken got;
+
+    r.state.demodulated_slot_available = true;
+    handed->time = 4000000000u;
+    memset(r.state.full_bits, 255, sizeof r.state.full_bits);
+    handed->full = (struct tetra_burst){ TETRA_NORMAL_1, 1, 48, 462 };
+    handed->subslot1 = (struct tetra_burst){ TETRA_EXTENDED, 0, 0, 510 };
+    handed->subslot2 = (struct tetra_burst){ TETRA_EXTENDED, 2, 0, 206 };
+    got = take(&r, 510, 254, 254);
+    expect("any slot, number", got.slot.time, 4000000000u % 283115520u);
+    burst("any slot, full", got.slot.full, TETRA_NORMAL_1, 1, 48, 462);
+    burst("any slot, half 1", got.slot.subslot1, TETRA_NONE, 100, 0, 0);
+    burst("any slot, half 2", got.slot.subslot2, TETRA_NONE, 100, 0, 0);
+    for (size_t i = 0; i < 510; i++)
+        expect("any slot, bits", slot[i], i < 462);
+    for (size_t i = 0; i < 254; i++)
+        expect("any slot, half", half1[i] | half2[i], 0);
+}
+
 static void any_numbers(void)
 {
-    struct tetra_receiver r, other = tetra_receiver_new(TETRA_MODE_DL);
+    struct tetra_receiver r, s, other = new_receiver(TETRA_MODE_DL);
 
     memset(&r, 0xff, sizeof r);
-    r.demodulated_slot_available = true;
-    struct tetra_taken got = take(r, 510, 254, 254);
+    r.state.demodulated_slot_available = true;
+    s = r;
+    struct tetra_taken got = take(&s, 510, 254, 254);
     expect("any numbers, taken", got.refusal, TETRA_ACCEPTED);
-    expect("any numbers, type", got.full.train_type, TETRA_NONE);
-    expect("any numbers, length", (int64_t)got.full.burst_len, 0);
+    burst("any numbers, full", got.slot.full, TETRA_NONE, 100, 0, 0);
+    expect("any numbers, number", got.slot.time < 283115520u, 1);
     for (size_t i = 0; i < 510; i++)
         expect("any numbers, slot", slot[i], 0);
-    expect("any numbers, follow", tetra_follow(r, other).receiver.mode, TETRA_MODE_UL);
-    expect("any numbers, sample", tetra_sample(r, 1.0f, 1.0f, 0).refusal, TETRA_ACCEPTED);
+    s = r;
+    expect("any numbers, follow", tetra_follow(&s, &other), TETRA_ACCEPTED);
+    expect("any numbers, follow", s.state.mode, TETRA_MODE_UL);
+    expect("any numbers, sample", sampled(r, 1.0f, 1.0f, 0), TETRA_ACCEPTED);
 
     for (uint8_t mode = 0; mode < 5; mode++) {
         size_t done = 0, slots = 0;
 
         memset(&r, 0xff, sizeof r);
-        r.demodulated_slot_available = false;
-        r.mode = mode;
+        r.state.demodulated_slot_available = false;
+        r.state.mode = mode;
         while (done < 5000 && slots < 10) {
-            struct tetra_fed fed = tetra_feed(r, quiet, 2 * (5000 - done), (int64_t)done);
+            struct tetra_fed fed = tetra_feed(&r, quiet, 5000 - done, (int64_t)done);
 
             expect("any numbers, feed", fed.refusal, TETRA_ACCEPTED);
             done += fed.taken;
             slots += fed.slot;
-            r = fed.receiver;
         }
         expect("any numbers, samples", (int64_t)done, 5000);
         expect("any numbers, a slot", slots > 0, mode == TETRA_MODE_DL || mode == TETRA_MODE_UL);
@@ -458,7 +507,7 @@ static void modulate(void)
 
 static void received(void)
 {
-    struct tetra_receiver r = tetra_receiver_new(TETRA_MODE_DL_SEARCHING);
+    struct tetra_receiver r = new_receiver(TETRA_MODE_DL_SEARCHING);
     size_t done = 0;
     uint32_t number = 0;
 
@@ -466,23 +515,21 @@ static void received(void)
     sync_burst(120, 30, 216, 510);
     modulate();
     while (done < SLOTS * SLOT_SAMPLES) {
-        struct tetra_fed fed = tetra_feed(r, carrier + 2 * done, 2 * (SLOTS * SLOT_SAMPLES - done), (int64_t)done);
+        struct tetra_fed fed = tetra_feed(&r, carrier + 2 * done, SLOTS * SLOT_SAMPLES - done, (int64_t)done);
 
         expect("carrier, refusal", fed.refusal, TETRA_ACCEPTED);
         done += fed.taken;
-        r = fed.receiver;
         if (!fed.slot)
             break;
-        struct tetra_taken got = take(r, 510, 254, 254);
+        struct tetra_taken got = take(&r, 510, 254, 254);
         number++;
         expect("carrier, taken", got.refusal, TETRA_ACCEPTED);
-        expect("carrier, number", got.number, number);
-        view("carrier", got.full, TETRA_SYNC, 0, 510);
+        expect("carrier, number", got.slot.time, number);
+        burst("carrier", got.slot.full, TETRA_SYNC, 0, 0, 510);
         expect("carrier, bits", memcmp(slot, bits, TETRA_SLOT_BITS), 0);
-        r = got.receiver;
     }
     expect("carrier, samples", (int64_t)done, SLOTS * SLOT_SAMPLES);
-    expect("carrier, mode", r.mode, TETRA_MODE_DL);
+    expect("carrier, mode", r.state.mode, TETRA_MODE_DL);
     expect("carrier, slots", number >= SLOTS - 3, 1);
 }
 
@@ -495,6 +542,7 @@ int main(void)
     blocks();
     takes();
     follows();
+    any_slot();
     any_numbers();
     received();
     return faults == 0 ? 0 : 1;
