@@ -22,12 +22,13 @@ const RUNS: usize = 5;
 
 /// This library's functions (include/tetra_modem.h, crates/bench_signal). A slice passes as a pointer and then its length.
 mod library {
+    /// All of a receiver but its past.
     #[derive(Clone, Copy)]
     #[repr(C)]
-    pub struct Receiver {
-        head: [u32; 13],
+    pub struct State {
+        head: [u64; 6],
         pub slot_waits: bool,
-        rest: [u64; 3312],
+        rest: [u64; 238],
     }
 
     #[derive(Clone, Copy)]
@@ -38,9 +39,9 @@ mod library {
     }
 
     #[repr(C)]
-    pub struct Received {
+    pub struct Answered {
         pub refusal: u32,
-        pub receiver: Receiver,
+        pub state: State,
     }
 
     #[repr(C)]
@@ -48,14 +49,15 @@ mod library {
         pub taken: usize,
         pub slot: bool,
         pub refusal: u32,
-        pub receiver: Receiver,
+        pub state: State,
     }
 
     #[derive(Clone, Copy)]
     #[repr(C)]
-    pub struct View {
+    pub struct Burst {
         pub train_type: u8,
         pub train_errs: usize,
+        pub burst_pos: usize,
         pub burst_len: usize,
     }
 
@@ -63,8 +65,8 @@ mod library {
     pub struct Taken {
         pub refusal: u32,
         pub number: u32,
-        pub views: [View; 3],
-        pub receiver: Receiver,
+        pub bursts: [Burst; 3],
+        pub state: State,
     }
 
     #[repr(C)]
@@ -84,10 +86,10 @@ mod library {
 
     #[rustfmt::skip]
     extern "C" {
-        pub fn tetra_receiver_new(mode: u32) -> Receiver;
-        pub fn tetra_sample(receiver: Receiver, re: f32, im: f32, counter: i64) -> Received;
-        pub fn tetra_feed(receiver: Receiver, samples: *const f32, _: usize, first: i64) -> Fed;
-        pub fn tetra_take(receiver: Receiver, slot: *mut u8, _: usize, half1: *mut u8, _: usize, half2: *mut u8, _: usize) -> Taken;
+        pub fn tetra_state_new(mode: u32) -> State;
+        pub fn tetra_state_sample(state: State, past_re: *mut f32, past_im: *mut f32, past_abs: *mut f32, re: f32, im: f32, counter: i64) -> Answered;
+        pub fn tetra_state_feed(state: State, past_re: *mut f32, past_im: *mut f32, past_abs: *mut f32, samples: *const f32, _: usize, first: i64) -> Fed;
+        pub fn tetra_state_take(state: State, slot: *mut u8, _: usize, half1: *mut u8, _: usize, half2: *mut u8, _: usize) -> Taken;
         pub fn bench_receive(samples: *const f32, _: usize, numbers: *mut u32, _: usize) -> usize;
         pub fn tetra_sender_new() -> Sender;
         pub fn tetra_send_sample(sender: Sender, counter: i64, slot: u32, has_bits: u32, bits: *const u8, _: usize) -> SentSample;
@@ -98,7 +100,25 @@ mod library {
     }
 }
 
-use library::{Receiver, Sender};
+use library::{Sender, State};
+
+/// A receiver in this program's memory, as a C program has it.
+#[derive(Clone)]
+struct Receiver {
+    state: State,
+    past: [[f32; 2048]; 3],
+}
+
+impl Receiver {
+    fn new() -> Receiver {
+        Receiver { state: unsafe { library::tetra_state_new(1) }, past: [[0.0; 2048]; 3] }
+    }
+
+    /// Pointers to the past, 2,048 elements each.
+    fn past(&mut self) -> [*mut f32; 3] {
+        self.past.each_mut().map(|ring| ring.as_mut_ptr())
+    }
+}
 
 /// What is logged of a slot: its number, its type, and the bits of its burst.
 #[derive(PartialEq)]
@@ -154,30 +174,27 @@ fn original_hears(receiver: &mut Demodulator, block: &[f32], first: usize, slots
     }
 }
 
-fn take(receiver: &mut Receiver, slots: &mut Vec<Slot>) {
+fn take(state: &mut State, slots: &mut Vec<Slot>) {
     let (mut slot, mut half1, mut half2) = ([0; 510], [0; 254], [0; 254]);
     let lent = (slot.as_mut_ptr(), half1.as_mut_ptr(), half2.as_mut_ptr());
     // Each pointer goes with its array's length, here and below.
-    let taken = unsafe { library::tetra_take(*receiver, lent.0, 510, lent.1, 254, lent.2, 254) };
-    let view = taken.views[0];
-    slots.push(Slot(taken.number, view.train_type, slot[..view.burst_len].to_vec()));
-    *receiver = taken.receiver;
+    let taken = unsafe { library::tetra_state_take(*state, lent.0, 510, lent.1, 254, lent.2, 254) };
+    let burst = taken.bursts[0];
+    slots.push(Slot(taken.number, burst.train_type, slot[..burst.burst_len].to_vec()));
+    *state = taken.state;
 }
 
 fn hears(receiver: &mut Receiver, mut block: &[f32], mut first: usize, slots: &mut Vec<Slot>) {
     while !block.is_empty() {
-        let fed = unsafe { library::tetra_feed(*receiver, block.as_ptr(), block.len(), first as i64) };
-        *receiver = fed.receiver;
+        let [re, im, abs] = receiver.past();
+        let fed = unsafe { library::tetra_state_feed(receiver.state, re, im, abs, block.as_ptr(), block.len(), first as i64) };
+        receiver.state = fed.state;
         block = &block[2 * fed.taken..];
         first += fed.taken;
         if fed.slot {
-            take(receiver, slots);
+            take(&mut receiver.state, slots);
         }
     }
-}
-
-fn new_receiver() -> Receiver {
-    unsafe { library::tetra_receiver_new(1) }
 }
 
 fn original_receives(air: &[f32], carriers: usize) -> Vec<Slot> {
@@ -193,7 +210,7 @@ fn original_receives(air: &[f32], carriers: usize) -> Vec<Slot> {
 
 fn receives_from_c(air: &[f32], carriers: usize) -> Vec<Slot> {
     let mut slots = Vec::new();
-    let mut receivers = vec![new_receiver(); carriers];
+    let mut receivers = vec![Receiver::new(); carriers];
     for (n, block) in air.chunks(2 * SLOT).enumerate() {
         for receiver in &mut receivers {
             hears(receiver, block, n * SLOT, &mut slots);
@@ -238,17 +255,40 @@ fn bench_single_samples(air: &[f32]) {
             original_hears(&mut Demodulator::new(Mode::DlUnsynchronized), air, 0, &mut slots);
             return slots;
         }
-        let mut receiver = new_receiver();
+        let mut receiver = Receiver::new();
         for (n, sample) in air.chunks_exact(2).enumerate() {
-            let next = unsafe { library::tetra_sample(receiver, sample[0], sample[1], n as i64) };
-            receiver = next.receiver;
-            if receiver.slot_waits {
-                take(&mut receiver, &mut slots);
+            let [re, im, abs] = receiver.past();
+            let next = unsafe { library::tetra_state_sample(receiver.state, re, im, abs, sample[0], sample[1], n as i64) };
+            receiver.state = next.state;
+            if receiver.state.slot_waits {
+                take(&mut receiver.state, &mut slots);
             }
         }
         slots
     });
     print(names, times, air.len() / 2);
+}
+
+/// The same waiting slot, taken again and again.
+fn bench_takes(air: &[f32]) {
+    let mut receiver = Receiver::new();
+    let mut first = 0;
+    while !receiver.state.slot_waits {
+        let [re, im, abs] = receiver.past();
+        let block = &air[2 * first..];
+        let fed = unsafe { library::tetra_state_feed(receiver.state, re, im, abs, block.as_ptr(), block.len(), first as i64) };
+        receiver.state = fed.state;
+        first += fed.taken;
+    }
+    let times = best(|_| {
+        let mut slots = Vec::with_capacity(SLOTS);
+        for _ in 0..SLOTS {
+            let mut waiting = black_box(receiver.state);
+            take(&mut waiting, &mut slots);
+        }
+        slots
+    });
+    print(["receiver, a waiting slot taken"], times, SLOTS);
 }
 
 fn bits_of_slots() -> Vec<[u8; 510]> {
@@ -387,6 +427,7 @@ pub fn bench() {
     );
     bench_receivers(&air[..SAMPLES / 4]);
     bench_single_samples(few);
+    bench_takes(few);
     bench_senders();
     bench_builders();
     bench_finders();
