@@ -13,6 +13,7 @@ use crate::sums::minus;
 use crate::sums::plus;
 use dsp_types::ACCEPTED;
 use dsp_types::ComplexSample;
+use dsp_types::SLOTS;
 use dsp_types::SampleCount;
 use dsp_types::least;
 use history::History;
@@ -56,7 +57,7 @@ fn quiet_from(reference: i64, ready: i64, slot: u32, misses: u32, next: i64, cou
     let reference_stands = is_same(valid_time(reference, FAR_REFERENCE), reference);
     let ready_stands = is_same(valid_time(ready, FAR_READY), ready);
     let follows = is_same(next, counter);
-    if !(reference_stands & ready_stands & follows & (slot < 283_115_520) & (misses <= 100)) {
+    if !(reference_stands & ready_stands & follows & (slot < SLOTS) & (misses <= 100)) {
         return 0;
     }
     if is_below(counter, 0) | is_below(137_438_950_000, counter) {

@@ -37,7 +37,7 @@ pub(crate) const FAR_REFERENCE: u64 = 549_755_813_888;
 
 pub(crate) const FAR_READY: u64 = 1_099_511_627_775;
 
-const LAST_NEXT: i64 = 137_438_953_472;
+const LAST_NEXT: i64 = LAST_COUNTER + 1;
 
 pub enum Answer {
     Accepted,

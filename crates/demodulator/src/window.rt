@@ -9,6 +9,7 @@ use crate::sums::plus;
 use burst_finder::Finding;
 use burst_finder::MAX_ERRS;
 use burst_finder::SlotType;
+use dsp_types::LAST_SLOT;
 use dsp_types::SampleCount;
 use dsp_types::TdmaTime;
 ghost use mathlib.Core.Path.{_≡_};
@@ -137,7 +138,7 @@ impl State {
         d.reference_time = reference;
         d.averaged_timing_error = averaged(0.0, w.timing);
         d.slots_since_last_valid_burst = 0;
-        let mut locked = d.set_slot(TdmaTime(283_115_519));
+        let mut locked = d.set_slot(TdmaTime(LAST_SLOT));
         locked.mode = 2;
         locked
     }

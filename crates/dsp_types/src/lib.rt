@@ -9,11 +9,14 @@ pub use refusals::BAD_LENGTH;
 pub use refusals::BAD_SAMPLE;
 pub use refusals::BAD_SLOT;
 pub use refusals::BAD_TRAINING;
+pub use refusals::COUNTERS;
 pub use refusals::LAST_COUNTER;
+pub use refusals::LAST_SLOT;
 pub use refusals::NEED_MORE_DATA;
 pub use refusals::NO_SLOT;
 pub use refusals::NOT_FOLLOWING;
 pub use refusals::PAST_COUNTER;
+pub use refusals::SLOTS;
 ghost use mathlib.Core.Path.{_≡_};
 ghost use Prim.Native.Nat.{_%_, min};
 ghost use lib.IntN.{pos, _+ℤ_};
@@ -67,7 +70,7 @@ impl TdmaTime {
     pub fn to_int(self) -> u32
         ensures { λ r. ⌜ r ≡ self .0 % slots ⌝ }
     {
-        self.0 % 283_115_520
+        self.0 % SLOTS
     }
 
     pub fn add_timeslots(self, n: i32) -> TdmaTime

@@ -1,4 +1,8 @@
 // The listing of a burst's adjustment bits: from the bytes of an input to those of the output.
+use dsp_types::ACCEPTED;
+use dsp_types::BAD_BIT;
+use dsp_types::BAD_LENGTH;
+use dsp_types::BAD_TRAINING;
 use slotter::Answer;
 use slotter::Burst;
 use text::Text;
@@ -172,12 +176,12 @@ fn refusal_of(kind: u32, characters: &[u8]) -> u32
     let wrong = wrong_length(kind, characters);
     let bad = not_characters(characters);
     if wrong {
-        return 3;
+        return BAD_LENGTH;
     }
     if bad {
-        return 4;
+        return BAD_BIT;
     }
-    if kind == 0 { 5 } else { 0 }
+    if kind == 0 { BAD_TRAINING } else { ACCEPTED }
 }
 
 // The bit that a character stands for.

@@ -1,4 +1,6 @@
 // The burst builders: a burst goes into bytes that are lent.
+use dsp_types::ACCEPTED;
+use dsp_types::BAD_LENGTH;
 use slotter::Answer;
 use slotter::Burst;
 ghost use mathlib.Core.Path.{_≡_};
@@ -12,7 +14,7 @@ fn number(burst: Burst) -> u32
 {
     let answer = burst.answer;
     match answer {
-        Answer::Built(_, _) => 0,
+        Answer::Built(_, _) => ACCEPTED,
         Answer::Refused(number) => number,
     }
 }
@@ -32,10 +34,10 @@ fn lend(burst: Burst, bits: &mut [u8]) -> u32
     ensures bits { λ r. ⌜ now (bits .exit) ≡ lentBurst (told burst) (now (bits .entry)) ⌝ }
 {
     if bits.len() != 510 {
-        return 3;
+        return BAD_LENGTH;
     }
     let refused = number(burst);
-    if refused == 0 {
+    if refused == ACCEPTED {
         let built = burst.bits;
         copy(&built, bits);
     }

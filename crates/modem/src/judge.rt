@@ -1,6 +1,10 @@
 // The logger's call: kept window bits are judged again.
 use burst_finder::Finding;
 use burst_finder::SlotType;
+use dsp_types::ACCEPTED;
+use dsp_types::BAD_BIT;
+use dsp_types::BAD_KIND;
+use dsp_types::BAD_LENGTH;
 ghost use mathlib.Core.Path.{_≡_};
 ghost use Prim.Native.Nat.{_<_};
 ghost use lib.ListN.{length};
@@ -36,15 +40,15 @@ fn refusal(kind: u32, bits: &[u8], answer: &[u8]) -> u32
     ensures { λ r. ⌜ r ≡ judgeRefusal kind (now (bits .entry)) (now (answer .entry)) ⌝ }
 {
     if answer.len() != 6 {
-        return 3;
+        return BAD_LENGTH;
     }
     if wrong_window(kind, bits) {
-        return 3;
+        return BAD_LENGTH;
     }
     if dsp_types::not_bits(bits) {
-        return 4;
+        return BAD_BIT;
     }
-    if 2 < kind { 7 } else { 0 }
+    if 2 < kind { BAD_KIND } else { ACCEPTED }
 }
 
 // The six answer bytes of a finding.
@@ -67,7 +71,7 @@ pub extern "C" fn tetra_judge(kind: u32, bits: &[u8], answer: &mut [u8]) -> u32
     ensures { λ r. ⌜ (r ≡ judgeRefusal kind (now (bits .entry)) (now (answer .entry))) × (now (answer .exit) ≡ judgeAnswer kind (now (bits .entry)) (now (answer .entry))) ⌝ }
 {
     let refused = refusal(kind, bits, &*answer);
-    if refused == 0 {
+    if refused == ACCEPTED {
         write_answer(
             burst_finder::check_slot(slot_type(kind), bits),
             &mut *answer,

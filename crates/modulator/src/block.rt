@@ -5,6 +5,9 @@ use crate::mapper::DqpskMapper;
 use crate::mapper::input;
 use crate::mapper::phase_after;
 use crate::sender::Modulator;
+use dsp_types::BAD_COUNTER;
+use dsp_types::COUNTERS;
+use dsp_types::NEED_MORE_DATA;
 use dsp_types::SampleCount;
 use dsp_types::TdmaTime;
 use dsp_types::least;
@@ -38,7 +41,7 @@ fn left(counter: u64, slot: u32) -> usize
     ensures { λ r. ⌜ r ≡ leftOf counter slot ⌝ }
 {
     let end = slot as u64 * 1020 + 1020;
-    let counted = (137_438_953_472 - counter) as usize;
+    let counted = (COUNTERS - counter) as usize;
     if end <= counter + 16 {
         return 0;
     }
@@ -50,10 +53,10 @@ fn end_refusal(counter: u64, left: usize) -> u32
     requires { ⌜ counter + left ≤ 2 ^ 37 ⌝ }
     ensures { λ r. ⌜ r ≡ cond (eqb (counter + left) (2 ^ 37)) 2 12 ⌝ }
 {
-    if counter + left as u64 == 137_438_953_472 {
-        2
+    if counter + left as u64 == COUNTERS {
+        BAD_COUNTER
     } else {
-        12
+        NEED_MORE_DATA
     }
 }
 

@@ -1,4 +1,12 @@
 // What one call of the sender is to feed to its filter, or its refusal.
+use dsp_types::ACCEPTED;
+use dsp_types::BAD_BIT;
+use dsp_types::BAD_COUNTER;
+use dsp_types::BAD_LENGTH;
+use dsp_types::BAD_SLOT;
+use dsp_types::LAST_COUNTER;
+use dsp_types::LAST_SLOT;
+use dsp_types::NEED_MORE_DATA;
 use dsp_types::SampleCount;
 use dsp_types::TdmaTime;
 ghost use mathlib.Core.Path.{_≡_};
@@ -18,38 +26,38 @@ pub enum Due {
 fn is_out_of_count(counter: i64) -> bool
     ensures { λ r. ⌜ r ≡ outOfCount counter ⌝ }
 {
-    (counter < 0) | (137_438_953_471 < counter)
+    (counter < 0) | (LAST_COUNTER < counter)
 }
 
 fn bits_refusal(has_bits: bool, bits: &[u8]) -> u32
     ensures { λ r. ⌜ r ≡ bitsRefusal «has_bits» (now (bits .entry)) ⌝ }
 {
     if !has_bits {
-        return 0;
+        return ACCEPTED;
     }
     if bits.len() != 510 {
-        return 3;
+        return BAD_LENGTH;
     }
     if dsp_types::not_bits(bits) {
-        return 4;
+        return BAD_BIT;
     }
-    0
+    ACCEPTED
 }
 
 fn input_refusal(counter: i64, slot: u32, has_bits: bool, bits: &[u8]) -> u32
     ensures { λ r. ⌜ r ≡ inputRefusal counter slot «has_bits» (now (bits .entry)) ⌝ }
 {
     if is_out_of_count(counter) {
-        return 2;
+        return BAD_COUNTER;
     }
     let refusal = bits_refusal(has_bits, bits);
-    if refusal != 0 {
+    if refusal != ACCEPTED {
         return refusal;
     }
-    if 283_115_519 < slot {
-        return 6;
+    if LAST_SLOT < slot {
+        return BAD_SLOT;
     }
-    0
+    ACCEPTED
 }
 
 // What is due under an accepted counter: the filter's delay of 16 samples is made up for.
@@ -64,7 +72,7 @@ pub(crate) fn due_at(counter: u64, slot: u32, has_bits: bool, bits: &[u8]) -> Du
     }
     let place = now - begin;
     if 1020 <= place {
-        return Due::Refused(12);
+        return Due::Refused(NEED_MORE_DATA);
     }
     if !has_bits {
         return Due::Silence;
@@ -80,7 +88,7 @@ pub(crate) fn due_now(counter: SampleCount, slot: TdmaTime, has_bits: bool, bits
     ensures { λ r. ⌜ r ≡ dueOf (counter .0) (slot .0) «has_bits» (now (bits .entry)) ⌝ }
 {
     let refusal = input_refusal(counter.0, slot.0, has_bits, bits);
-    if refusal != 0 {
+    if refusal != ACCEPTED {
         return Due::Refused(refusal);
     }
     due_at(dsp_types::unsigned(counter.0), slot.0, has_bits, bits)
@@ -93,7 +101,7 @@ pub(crate) fn refusal_now(counter: SampleCount, slot: TdmaTime, has_bits: bool, 
     let due = due_now(counter, slot, has_bits, bits);
     match due {
         Due::Refused(number) => number,
-        Due::Silence => 0,
-        Due::Symbol(_, _) => 0,
+        Due::Silence => ACCEPTED,
+        Due::Symbol(_, _) => ACCEPTED,
     }
 }

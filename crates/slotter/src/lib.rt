@@ -1,5 +1,9 @@
 // Downlink bursts: the builders of slotter.rs, with the phase adjustment bits that EN 300 392-2 has.
 
+use dsp_types::ACCEPTED;
+use dsp_types::BAD_BIT;
+use dsp_types::BAD_LENGTH;
+use dsp_types::BAD_TRAINING;
 use dsp_types::not_bits;
 use train_consts::FREQ_CORRECTION;
 use train_consts::SEQ_NORM1;
@@ -122,10 +126,10 @@ fn block_refusal(n: usize, blk1: &[u8], bbk: &[u8], blk2: &[u8], otherwise: u32)
     let lengths = wrong_length(n, blk1) | wrong_length(30, bbk) | wrong_length(216, blk2);
     let bits = not_bits(blk1) | not_bits(bbk) | not_bits(blk2);
     if lengths {
-        return 3;
+        return BAD_LENGTH;
     }
     if bits {
-        return 4;
+        return BAD_BIT;
     }
     otherwise
 }
@@ -134,7 +138,11 @@ fn block_refusal(n: usize, blk1: &[u8], bbk: &[u8], blk2: &[u8], otherwise: u32)
 fn training_refusal(train: u32) -> u32
     ensures { λ r. ⌜ r ≡ trainingRefusal train ⌝ }
 {
-    if (train == 1) | (train == 2) { 0 } else { 5 }
+    if (train == 1) | (train == 2) {
+        ACCEPTED
+    } else {
+        BAD_TRAINING
+    }
 }
 
 // The normal training sequence with that number, 1 or 2.

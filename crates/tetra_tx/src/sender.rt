@@ -1,6 +1,8 @@
 // The slots, sent one behind the other.
 use crate::line;
 use crate::line::Asked;
+use dsp_types::COUNTERS;
+use dsp_types::LAST_SLOT;
 use dsp_types::SampleCount;
 use dsp_types::TdmaTime;
 use libc::STDERR_FILENO;
@@ -58,10 +60,10 @@ impl Sender {
         if !self.is_open {
             return self;
         }
-        if 137_438_953_471 < self.counter {
+        if COUNTERS <= self.counter {
             return self.closed();
         }
-        if 283_115_519 < self.slot {
+        if LAST_SLOT < self.slot {
             return self.closed();
         }
         let mut parts = [0.0f32; 2040];
