@@ -6,8 +6,8 @@ use crate::output::Output;
 use demodulator::Answer;
 use demodulator::Demodulator;
 use demodulator::Mode;
+use demodulator::RxBurst;
 use demodulator::TakeAnswer;
-use demodulator::TakenView;
 use dsp_types::ComplexSample;
 use dsp_types::SampleCount;
 
@@ -44,8 +44,8 @@ fn is_all(bytes: &[u8], byte: u8) -> bool {
     true
 }
 
-// Type, errors and bits of a view.
-fn view(out: Output, block: &mut Block, told: TakenView, lent: &Lent) -> Output {
+// Type, errors and bits of a burst.
+fn burst(out: Output, block: &mut Block, told: RxBurst, lent: &Lent) -> Output {
     let bits = part(lent, 0, told.burst_len);
     let told_of = out.number(block, told.train_type as u64)
         .number(block, told.train_errs as u64)
@@ -56,8 +56,8 @@ fn view(out: Output, block: &mut Block, told: TakenView, lent: &Lent) -> Output 
     told_of.digits(block, bits)
 }
 
-// Whether the bytes behind a view of a slice of that length are 0.
-fn is_padded(told: TakenView, lent: &Lent, len: usize) -> bool {
+// Whether the bytes behind a burst in a slice of that length are 0.
+fn is_padded(told: RxBurst, lent: &Lent, len: usize) -> bool {
     is_all(part(lent, told.burst_len, len), 0)
 }
 
@@ -71,16 +71,16 @@ fn taken(
     half2: &Lent,
 ) -> Output {
     match answer {
-        TakeAnswer::Slot(time, told, told1, told2) => {
-            if !(is_padded(told, slot, 510)
-                & is_padded(told1, half1, 254)
-                & is_padded(told2, half2, 254)) {
+        TakeAnswer::Slot(told) => {
+            if !(is_padded(told.full, slot, 510)
+                & is_padded(told.subslot1, half1, 254)
+                & is_padded(told.subslot2, half2, 254)) {
                 return out.text(block, b"error\n");
             }
-            let mut o = out.text(block, b"slot").number(block, time.0 as u64);
-            o = view(o, block, told, slot);
-            o = view(o, block, told1, half1);
-            view(o, block, told2, half2).text(block, b"\n")
+            let mut o = out.text(block, b"slot").number(block, told.time.0 as u64);
+            o = burst(o, block, told.full, slot);
+            o = burst(o, block, told.subslot1, half1);
+            burst(o, block, told.subslot2, half2).text(block, b"\n")
         }
         TakeAnswer::Refused(number) => {
             if !(is_all(slot, 7) & is_all(half1, 7) & is_all(half2, 7)) {
