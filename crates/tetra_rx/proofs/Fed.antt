@@ -1,5 +1,5 @@
 -- A feed takes no more samples than it is given. Assumes nothing.
-use Prim.Native.Nat.{ℕ, zero, suc, _+_, _*_, _/_, _≤_}
+use Prim.Native.Nat.{ℕ, suc, _+_, _*_, _/_, _≤_}
 use mathlib.Core.Path.{_≡_}
 use mathlib.Core.Bool.{Bool, true, false}
 use mathlib.Core.List.{List, [], _∷_}
@@ -8,22 +8,28 @@ use lib.IntN.{ℤ, pos, _+ℤ_}
 use lib.ListN.{length}
 use lib.Ieee.{Float}
 use Rattle.dsp_types.specs.declared.ComplexSample.{ComplexSample}
-use Rattle.demodulator.specs.Receiver.{Receiver}
-use Rattle.demodulator.specs.Feed.{interleaved, Block, fedOne, feedOf, handsOver}
-use Rattle.demodulator.specs.Calls.{validCount, sampleRefusal, sampleOf}
-use Rattle.demodulator.specs.Windows.{sampleWindows}
+use Rattle.demodulator.specs.Receiver.{HandedSlot, Receiver}
+use Rattle.demodulator.specs.Windows.{handsOver}
+use Rattle.demodulator.specs.Calls.{Reply, refused, done, took, sampleOutcome}
+use Rattle.demodulator.specs.Feed.{interleaved, Block, fedOne, fedBy, feedOf}
 
-one-more : (refusal : ℕ) (handed : Bool) (before after : Receiver) (others : Block) (n : ℕ) → others .taken ≤ n → fedOne refusal handed before after others .taken ≤ suc n
+one-more : (handed : Bool) (after : Receiver) (others : Block) (n : ℕ) → others .taken ≤ n → fedOne handed after others .taken ≤ suc n
 unfolding fedOne
-one-more (suc r) handed before after others n h = omega arith
-one-more zero true before after others n h = omega arith
-one-more zero false before after others n h = omega arith
+one-more true after others n h = omega arith
+one-more false after others n h = omega arith
+
+by-answer : (reply : Reply HandedSlot) (r : Receiver) (block : Block) (n : ℕ) → block .taken ≤ n → fedBy reply r block .taken ≤ n
+unfolding fedBy
+by-answer (refused m) r block n h = omega arith
+by-answer done r block n h = h
+by-answer (took slot) r block n h = h
 
 within : (r : Receiver) (xs : List ComplexSample) (c : ℤ) → feedOf r xs c .taken ≤ length xs
 unfolding feedOf
 within r [] c = omega arith
 within r (x ∷ xs) c =
-    one-more (sampleRefusal (validCount (r .next)) x c) (handsOver (sampleWindows r x c)) r (sampleOf r x c) (feedOf (sampleOf r x c) xs (c +ℤ pos 1)) (length xs) (within (sampleOf r x c) xs (c +ℤ pos 1))
+    let o = sampleOutcome r x c in
+    by-answer (o .reply) r _ (suc (length xs)) (one-more (handsOver (o .windows)) (o .receiver) (feedOf (o .receiver) xs (c +ℤ pos 1)) (length xs) (within (o .receiver) xs (c +ℤ pos 1)))
 
 halves : (parts : List Float) → 2 * length (interleaved parts) ≤ length parts
 unfolding interleaved

@@ -1,8 +1,8 @@
 // A receiver of the downlink, and what it has told.
 use crate::line::slot_line;
 use crate::options::Options;
-use demodulator::Demodulator;
 use demodulator::Mode;
+use demodulator::State;
 use demodulator::Stop;
 use demodulator::TakeAnswer;
 use dsp_types::SampleCount;
@@ -12,8 +12,9 @@ use text::Text;
 ghost use Prim.Native.Nat.{_/_, _^_, _<_, _≤_};
 ghost use lib.ListN.{length};
 
+// The receiver's past is lent to the calls that hear, so that none of them copies it.
 pub struct Listener {
-    receiver: Demodulator,
+    receiver: State,
     // The counter of the next sample.
     counter: u64,
     slots: u64,
@@ -66,7 +67,7 @@ fn one_more(taken: usize, count: usize) -> usize
 
 impl Listener {
     pub fn new() -> Listener {
-        let receiver = Demodulator::new(Mode::DlUnsynchronized);
+        let receiver = State::new(Mode::DlUnsynchronized);
         Listener {
             receiver,
             counter: 0,
@@ -83,17 +84,17 @@ impl Listener {
         let mut subslot2 = [0u8; 254];
         let receiver = self.receiver;
         let taken = receiver.take_demodulated_slot(&mut slot, &mut subslot1, &mut subslot2);
-        let after = taken.receiver;
+        let after = taken.state;
         let mut next = self;
         next.receiver = after;
         let answer = taken.answer;
         match answer {
-            TakeAnswer::Slot(time, view, _, _) => {
-                let bits = text::front(&slot, view.burst_len);
+            TakeAnswer::Slot(told) => {
+                let bits = text::front(&slot, told.full.burst_len);
                 let line = slot_line(
-                    time.0,
-                    view.train_type,
-                    view.train_errs,
+                    told.time.0,
+                    told.full.train_type,
+                    told.full.train_errs,
                     options.has_bits,
                     bits,
                 );
@@ -108,6 +109,7 @@ impl Listener {
             TakeAnswer::Refused(_) => next,
         }
     }
+
     // A sample is refused by that number: it is told once, and all are counted.
     fn refuse(self, number: u32) -> Listener {
         if self.refused == 0 {
@@ -131,16 +133,23 @@ impl Listener {
     }
 
     // Hears samples up to one that hands a slot over, which is printed, or with one that is refused.
-    fn step(self, parts: &[f32], options: Options) -> Heard
+    fn step(
+        self,
+        re: &mut [f32; 2048],
+        im: &mut [f32; 2048],
+        abs: &mut [f32; 2048],
+        parts: &[f32],
+        options: Options,
+    ) -> Heard
         requires { ⌜ self .counter < 2 ^ 37 ⌝ }
         ensures { λ r. ⌜ r .taken ≤ length (now (parts .entry)) / 2 ⌝ }
     {
         let receiver = self.receiver;
         let mode = receiver.mode;
-        let fed = receiver.feed(parts, SampleCount(self.counter as i64));
+        let fed = receiver.feed(re, im, abs, parts, SampleCount(self.counter as i64));
         let taken = fed.taken;
         let stop = fed.stop;
-        let after = fed.receiver;
+        let after = fed.state;
         let mut next = self;
         next.receiver = after;
         next.counter = std::num::wrapping_add_u64(self.counter, taken as u64);
@@ -164,7 +173,14 @@ impl Listener {
     }
 
     // Hears a block of samples, re and im in turn.
-    pub fn hear(self, parts: &[f32], options: Options) -> Listener {
+    pub fn hear(
+        self,
+        re: &mut [f32; 2048],
+        im: &mut [f32; 2048],
+        abs: &mut [f32; 2048],
+        parts: &[f32],
+        options: Options,
+    ) -> Listener {
         let count = parts.len() / 2;
         let mut listener = self;
         let mut at: usize = 0;
@@ -174,7 +190,7 @@ impl Listener {
             if 137_438_953_471 < listener.counter {
                 listener = listener.close();
             } else {
-                let heard = listener.step(&parts[2 * at..], options);
+                let heard = listener.step(re, im, abs, &parts[2 * at..], options);
                 listener = heard.listener;
                 at += heard.taken;
             }

@@ -60,15 +60,19 @@ fn fill(block: &mut Block, held: usize) -> usize {
     read_on(block, held)
 }
 
+// Hears the samples that the block's first bytes hold.
 fn hear_block(
     listener: Listener,
+    re: &mut [f32; 2048],
+    im: &mut [f32; 2048],
+    abs: &mut [f32; 2048],
     block: &Block,
     len: usize,
     parts: &mut Parts,
     options: Options,
 ) -> Listener {
     let n = cf32::decode(text::front(block, len), parts);
-    listener.hear(front_parts(&*parts, n), options)
+    listener.hear(re, im, abs, front_parts(&*parts, n), options)
 }
 
 fn at_most_65536(n: usize) -> usize
@@ -102,21 +106,12 @@ fn finish(listener: Listener, held: usize, options: Options) {
 }
 
 // A proved loop has to end, and nothing says that an input does: it counts down from a number that no run uses up.
-fn main() {
-    let options = options::read();
-    if options.is_help {
-        help();
-        return;
-    }
-    if options.is_bad {
-        io::write_all(
-            STDERR_FILENO,
-            b"tetra_rx: unknown option, see tetra_rx --help\n",
-        );
-        return;
-    }
+fn receive(options: Options) {
     let mut block = [0u8; 65536];
     let mut parts = [0.0f32; 16384];
+    let mut re = [0.0f32; 2048];
+    let mut im = [0.0f32; 2048];
+    let mut abs = [0.0f32; 2048];
     let mut listener = Listener::new();
     let mut held: usize = 0;
     let mut turns = u64::MAX;
@@ -126,8 +121,31 @@ fn main() {
         if len == held {
             break;
         }
-        listener = hear_block(listener, &block, len, &mut parts, options);
+        listener = hear_block(
+            listener,
+            &mut re,
+            &mut im,
+            &mut abs,
+            &block,
+            len,
+            &mut parts,
+            options,
+        );
         held = keep_rest(&mut block, len);
     }
     finish(listener, held, options);
+}
+
+fn main() {
+    let options = options::read();
+    if options.is_help {
+        help();
+    } else if options.is_bad {
+        io::write_all(
+            STDERR_FILENO,
+            b"tetra_rx: unknown option, see tetra_rx --help\n",
+        );
+    } else {
+        receive(options);
+    }
 }

@@ -9,11 +9,11 @@ use Rattle.tetra_rx.proofs.listener.Listener.hear.Statement.{statement}
 use Rattle.tetra_rx.proofs.listener.Listener.hear.Tie as tie
 
 abbrev Inv-loop : tie.InvT-loop
-Inv-loop parts options count listener₀ at₀ turns₀ listener at turns =
+Inv-loop re₀ im₀ abs₀ parts options count listener₀ at₀ turns₀ re im abs listener at turns =
     (at ≤ count) × (count ≡ length parts / 2)
 
 abbrev μ-loop : tie.MeasureT-loop
-μ-loop parts options count listener₀ at₀ turns₀ listener at turns =
+μ-loop re₀ im₀ abs₀ parts options count listener₀ at₀ turns₀ re im abs listener at turns =
     turns
 
 loop-holds : tie.Need-loop-holds Inv-loop μ-loop
@@ -22,12 +22,15 @@ loop-holds c = search needs
 long : (c : tie.After-shared-slice-known Inv-loop μ-loop) → length (c .before .args .parts .now) / 2 < 2 ^ 64
 long c = search needs
 
-within : (c : tie.After-struct-known2 Inv-loop μ-loop) → c .before .before .before .before .before .before .before .before .before .loop .at + c .before .before .step .result .taken ≤ length (c .before .before .before .before .before .before .before .before .before .before .before .args .parts .now) / 2
+abbrev turn : tie.After-struct-known2 Inv-loop μ-loop → tie.At-loop Inv-loop μ-loop
+turn c = c .before .before .before .before .before .before .before .before .before .before .before .before
+
+within : (c : tie.After-struct-known2 Inv-loop μ-loop) → turn c .loop .at + c .before .before .step .result .taken ≤ length (turn c .before .before .args .parts .now) / 2
 within c =
-    let p = c .before .before .before .before .before .before .before .before .before .before .before .args .parts .now in
-    let at = c .before .before .before .before .before .before .before .before .before .loop .at in
+    let p = turn c .before .before .args .parts .now in
+    let at = turn c .loop .at in
     let e = length-take-le (length p - 2 * at) (drop (2 * at) p) (omega (arith, length-drop (2 * at) p)) in
-    omega (arith, e, c .before .before .step .ensures, c .before .before .before .before .before .before .before .before .before .loop .inv)
+    omega (arith, e, c .before .before .step .ensures, turn c .loop .inv)
 
 sub-turns : tie.Need-sub-turns Inv-loop μ-loop
 sub-turns c = search needs
@@ -60,13 +63,13 @@ step-requires : tie.Need-step-requires Inv-loop μ-loop
 step-requires c κs = search needs
 
 add-at : tie.Need-add-at Inv-loop μ-loop
-add-at c = omega (arith, within c, long (c .before .before .before .before .before .before .before .before .before .before))
+add-at c = omega (arith, within c, long (turn c .before))
 
 loop-less-2 : tie.Need-loop-less-2 Inv-loop μ-loop
 loop-less-2 c = search needs
 
 loop-again-2 : tie.Need-loop-again-2 Inv-loop μ-loop
-loop-again-2 c = (within c, c .before .before .before .before .before .before .before .before .before .loop .inv .1)
+loop-again-2 c = (within c, turn c .loop .inv .1)
 
 returns : tie.Need-returns Inv-loop μ-loop
 returns c = search needs

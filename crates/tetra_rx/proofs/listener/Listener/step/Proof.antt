@@ -6,11 +6,14 @@ use borrow.Author.Needs.{needs}
 use Rattle.tetra_rx.proofs.listener.Listener.step.Statement.{statement}
 use Rattle.tetra_rx.proofs.listener.Listener.step.Tie as tie
 
-within : (c : tie.After-feed) → c .feed .result .taken ≤ length (c .before .before .before .before .args .parts .now) / 2
-within c = fed-within _ (c .before .before .before .before .args .parts .now) _ _ (c .feed .ensures .0)
+abbrev given : tie.After-feed → tie.Start
+given c = c .before .before .before .before .before .before .before
 
-cast-t12 : tie.Need-cast-t12
-cast-t12 c = search needs
+within : (c : tie.After-feed) → c .feed .result .taken ≤ length (given c .args .parts .now) / 2
+within c = fed-within _ (given c .args .parts .now) _ _ (c .feed .ensures .0)
+
+cast-t18 : tie.Need-cast-t18
+cast-t18 c = search needs
 
 feed-requires : tie.Need-feed-requires
 feed-requires c κs = search needs
@@ -52,7 +55,7 @@ pub step-spec : {M : Type 1} → statement M
 step-spec =
     tie.close
     (tie.spec
-    cast-t12
+    cast-t18
     feed-requires
     wrapping-add-u64-requires
     tell-mode-requires
