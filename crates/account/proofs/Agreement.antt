@@ -13,18 +13,18 @@ use Rattle.demodulator.specs.Signal.{Signal, hear}
 use Rattle.demodulator.specs.Receiver as R
 use Rattle.demodulator.specs.declared.Mode.{Mode}
 use Rattle.demodulator.specs.declared.Mode.the-variants.{DlUnsynchronized}
-use Rattle.demodulator.specs.Receiver.{Clock, Lock, HandedSlot, Receiver, new, processSample}
-use Rattle.demodulator.specs.Calls.{validCount, sampleRefusal, missing, feedZeros, expecting, accept, unless, sampleOf, takeRefusal, taken, followRefusal, followOf}
-use Rattle.demodulator.specs.Windows.{Window, windowOf, zerosWindows, acceptWindows, sampleWindows}
+use Rattle.demodulator.specs.Receiver.{Clock, Lock, HandedSlot, Receiver, withWaits, withNext, new, processSample, missing, feedZeros, accept}
+use Rattle.demodulator.specs.Windows.{Window, windowOf, zerosWindows, acceptWindows}
+use Rattle.demodulator.specs.Calls.{Reply, refused, done, took, unless, sampleRefusal, sampled, sampleOutcome, takeRefusal, taken, takeOutcome, followRefusal, followOutcome}
 use Rattle.account.specs.CallList as CallList
-use Rattle.account.specs.CallList.{Call, sample, follow, Answer, refused, done, answeredTake, answerTo, leaves, closes, after, answers, closed}
+use Rattle.account.specs.CallList.{Call, sample, follow, outcome, after, answers, closed}
 use Rattle.account.specs.Rules.{Account}
 use Rattle.account.specs.Tracked.{Tracked, signalOf, tracked, turn, account}
 use Rattle.account.specs.Account
-use Rattle.account.specs.Account.{Waiting, nothing, waits, changed, lastHanded, newer, sized, seenIf, seen, toldTake, modeOf, accountOf, heard, nextCounter, Counted, expected, expectedAll}
+use Rattle.account.specs.Account.{Waiting, nothing, waits, changed, lastHanded, newer, sized, seenIf, seen, answered, toldTake, modeOf, accountOf, heard, ifAccepted, nextCounter, Counted, expected, expectedAll}
 use Rattle.account.proofs.Times.{none-missing}
-use Rattle.account.proofs.Simulation.{Timed, searching, fresh, steady, Waits, no-half-view, Stepped, stepped, over}
-use Rattle.account.proofs.Bounds.{Within, Accepted, accepted-at, valid-same, valid-count, sample-within, take-within, new-within}
+use Rattle.account.proofs.Simulation.{Timed, searching, fresh, steady, Waits, Stepped, stepped, over}
+use Rattle.account.proofs.Bounds.{Within, Accepted, accepted-at, valid-same, slot-same, sample-within, taken-within, new-within}
 
 -- ---- windows
 pub newer-cons : (k : ℕ) (w : Window) (ws : List Window) → k ≤ length ws → newer k (w ∷ ws) ≡ w ∷ newer k ws
@@ -44,35 +44,32 @@ waits-over k [] ws h = refl
 waits-over k (v ∷ w) ws h = rw (newer-cons k v (w ++ ws) (omega (arith, h, length-append w ws))) (ap (changed (v .kind)) (waits-over k w ws h))
 
 -- ---- one call
-pub record Leaves (r : Receiver) (c : Call) (r′ : Receiver) (w : List Window) (a : Answer) : Type 0 where
-  pub after : leaves r c ≡ r′
-  pub windows : closes r c ≡ w
-  pub answer : answerTo r c ≡ a
+pub record Leaves (r : Receiver) (c : Call) (r′ : Receiver) (w : List Window) (a : Reply HandedSlot) : Type 0 where
+  pub after : outcome r c .receiver ≡ r′
+  pub windows : outcome r c .windows ≡ w
+  pub answer : outcome r c .reply ≡ a
 
 sample-refuses : (r : Receiver) (x : ComplexSample) (c : ℤ) (k : ℕ) → Within r → sampleRefusal (r .next) x c ≡ suc k → Leaves r (sample x c) r [] (refused (suc k))
-unfolding leaves closes answerTo sampleOf sampleWindows unless CallList.answered
-sample-refuses r x c k w e =
-    let f : sampleRefusal (validCount (r .next)) x c ≡ suc k = rw (valid-count r w) e in
-    record { after = rw f; windows = rw f; answer = rw f }
+unfolding outcome sampleOutcome unless
+sample-refuses r x c k w e = record { after = rw (valid-same r w, e); windows = rw (valid-same r w, e); answer = rw (valid-same r w, e) }
 
 sample-accepts : (r : Receiver) (x : ComplexSample) (c : ℤ) (n : ℕ) → Within r → sampleRefusal (r .next) x c ≡ 0 → r .next ≡ pos n → c ≡ pos n
-    → Leaves r (sample x c) (expecting (processSample r x (pos n)) (pos n +ℤ pos 1)) (windowOf r x (pos n) ++ []) done
-unfolding leaves closes answerTo sampleOf sampleWindows unless accept acceptWindows feedZeros zerosWindows CallList.answered
+    → Leaves r (sample x c) (withNext (processSample r x (pos n)) (pos n +ℤ pos 1)) (windowOf r x (pos n) ++ []) done
+unfolding outcome sampleOutcome unless sampled accept acceptWindows feedZeros zerosWindows
 sample-accepts r x c n w e p q =
-    let f : sampleRefusal (validCount (r .next)) x c ≡ 0 = rw (valid-count r w) e in
     let m : missing (c -ℤ r .next) ≡ 0 = rw (p, q) (none-missing n) in
-    record { after = rw (f, valid-same r w, m, q); windows = rw (f, valid-same r w, m, q); answer = rw f }
+    record { after = rw (valid-same r w, e, m, q); windows = rw (valid-same r w, e, m, q); answer = rw (valid-same r w, e) }
 
 follow-refused : (r other : Receiver) (b : Bool) → r .mode ≡ modeOf b → Leaves r (follow other) r [] (refused 13)
-unfolding leaves closes answerTo followOf followRefusal unless modeOf CallList.answered
-follow-refused r other true e = record { after = rw e; windows = refl; answer = rw e }
-follow-refused r other false e = record { after = rw e; windows = refl; answer = rw e }
+unfolding outcome followOutcome followRefusal unless modeOf
+follow-refused r other true e = record { after = rw e; windows = rw e; answer = rw e }
+follow-refused r other false e = record { after = rw e; windows = rw e; answer = rw e }
 
 -- a take leaves the slot or empties it
 unfoldable pub untaken : Bool → Waiting → Receiver → Receiver
 untaken false v r = r
 untaken true nothing r = r
-untaken true (waits n v) r = taken r
+untaken true (waits h) r = withWaits r false
 
 take-refusal : (s a b : List ℕ) (available : Bool) → takeRefusal s a b available ≡ cond (sized s a b) (cond available 0 11) 3
 unfolding takeRefusal sized
@@ -82,23 +79,25 @@ take-refusal s a b available = go (wrongLength 510 s || (wrongLength 254 a || wr
     go true = refl
     go false = refl
 
-take-as : (h : HandedSlot) (b : Bool) (v : Waiting) → Waits h v → answeredTake (cond b (cond (h .available) 0 11) 3) h ≡ toldTake b v
-unfolding answeredTake toldTake
-take-as h false v w = refl
-take-as h true nothing w = rw (w .stands)
-take-as h true (waits n v) w = rw (w .stands .0, w .stands .1, w .stands .2, w .subslot1, w .subslot2)
+take-outcome : (r : Receiver) (s a b : List ℕ) (d : Bool) → sized s a b ≡ d → Within r
+    → takeOutcome r s a b ≡ unless (cond d (cond (r .waits) 0 11) 3) r (s ∷ a ∷ b ∷ []) (taken r (r .slot))
+unfolding takeOutcome
+take-outcome r s a b d e w = rw (take-refusal s a b (r .waits), e, slot-same r w)
 
-take-after : (r : Receiver) (b : Bool) (v : Waiting) (available : Bool) → r .slot .available ≡ available → Waits (r .slot) v → unless (cond b (cond available 0 11) 3) (taken r) r ≡ untaken b v r
-unfolding unless untaken
-take-after r false v d e w = refl
-take-after r true nothing d e w = rw (sym e ∙ w .stands)
-take-after r true (waits n v) d e w = rw (sym e ∙ w .stands .0)
-
-pub take-leaves : (r : Receiver) (s a b : List ℕ) (d : Bool) (v : Waiting) → sized s a b ≡ d → Waits (r .slot) v → Leaves r (CallList.take s a b) (untaken d v r) [] (toldTake d v)
-unfolding leaves closes answerTo
-take-leaves r s a b d v e w =
-    let f : takeRefusal s a b (r .slot .available) ≡ cond d (cond (r .slot .available) 0 11) 3 = rw (← e) (take-refusal s a b (r .slot .available)) in
-    record { after = rw f (take-after r d v (r .slot .available) refl w); windows = refl; answer = rw f (take-as (r .slot) d v w) }
+pub take-leaves : (r : Receiver) (s a b : List ℕ) (d : Bool) (v : Waiting) → sized s a b ≡ d → Within r → Waits (r .waits) (r .slot) v
+    → Leaves r (CallList.take s a b) (untaken d v r) [] (toldTake d v)
+unfolding outcome unless taken untaken toldTake
+take-leaves r s a b false v e i w =
+    let o = take-outcome r s a b false e i in
+    record { after = rw o; windows = rw o; answer = rw o }
+take-leaves r s a b true nothing e i w =
+    let o = take-outcome r s a b true e i in
+    let n = w .stands in
+    record { after = rw (o, n); windows = rw (o, n); answer = rw (o, n) }
+take-leaves r s a b true (waits h) e i w =
+    let o = take-outcome r s a b true e i in
+    let n = w .stands .0 in
+    record { after = rw (o, n); windows = rw (o, n); answer = rw (o, n) (ap took (w .stands .1)) }
 
 -- ---- the invariant of a list of calls
 pub record Agree (cs : List Call) : Type 0 where
@@ -107,20 +106,20 @@ pub record Agree (cs : List Call) : Type 0 where
   pub counted : nextCounter cs ≡ pos (length (heard cs))
   pub signal : after cs .signal ≡ signalOf (heard cs)
   pub timed : Timed (after cs .mode) (after cs .clock) (after cs .lock) (length (heard cs)) (tracked (heard cs))
-  pub waiting : Waits (after cs .slot) (Account.waiting cs)
+  pub waiting : Waits (after cs .waits) (after cs .slot) (Account.waiting cs)
   pub windows : closed cs ≡ accountOf cs .windows
   pub seen : Account.seen cs ≤ length (accountOf cs .windows)
   pub answered : answers cs ≡ expectedAll cs
 
 agree-new : Agree []
-unfolding after new R.noSlot R.noFinder R.setSlot R.slotReadyFromBegin nextCounter heard signalOf tracked Account.waiting Account.seen accountOf account lastHanded newer closed answers expectedAll
+unfolding after new R.noSlot R.setSlot R.slotReadyFromBegin nextCounter heard signalOf tracked Account.waiting Account.seen accountOf account lastHanded newer closed answers expectedAll
 agree-new = record {
   within = new-within DlUnsynchronized;
   next = refl;
   counted = refl;
   signal = refl;
   timed = searching (record { mode = refl; unlocked = refl; above-zero = refl; due = refl; least = omega arith; most = omega arith; begun = omega arith });
-  waiting = record { stands = refl; subslot1 = no-half-view []; subslot2 = no-half-view [] };
+  waiting = record { stands = refl; whole = record { subslot1 = refl; subslot2 = refl } };
   windows = refl;
   seen = omega arith;
   answered = refl;
@@ -134,7 +133,7 @@ mode-is m c l n t (fresh k s) = k .mode ∙ rw (k .locked)
 mode-is m c l n t (steady k s) = k .mode ∙ rw (k .locked)
 
 -- the clauses of the recursive functions, as equations: `rw` looks into no recursive call that a clause has left
-module _ (c : Call) (cs : List Call) {r′ : Receiver} {w : List Window} {a : Answer} (o : Leaves (after cs) c r′ w a) where
+module _ (c : Call) (cs : List Call) {r′ : Receiver} {w : List Window} {a : Reply HandedSlot} (o : Leaves (after cs) c r′ w a) where
   after-is : after (c ∷ cs) ≡ r′
   unfolding after
   after-is = o .after
@@ -151,7 +150,7 @@ module _ (c : Call) (cs : List Call) {r′ : Receiver} {w : List Window} {a : An
   carry : Agree cs → heard (c ∷ cs) ≡ heard cs → nextCounter (c ∷ cs) ≡ nextCounter cs → w ≡ []
       → Within r′ → r′ .next ≡ after cs .next → r′ .signal ≡ after cs .signal
       → Timed (r′ .mode) (r′ .clock) (r′ .lock) (length (heard cs)) (tracked (heard cs))
-      → Waits (r′ .slot) (lastHanded (newer (Account.seen (c ∷ cs)) (accountOf cs .windows)))
+      → Waits (r′ .waits) (r′ .slot) (lastHanded (newer (Account.seen (c ∷ cs)) (accountOf cs .windows)))
       → Account.seen (c ∷ cs) ≤ length (accountOf cs .windows)
       → a ≡ expected c cs
       → Agree (c ∷ cs)
@@ -177,7 +176,7 @@ agree-follow other cs g =
     g refl refl refl (g .within) refl refl (g .timed) (g .waiting) (g .seen) refl
 
 agree-refused : (x : ComplexSample) (c : ℤ) (cs : List Call) (k : ℕ) → sampleRefusal (nextCounter cs) x c ≡ suc k → Agree cs → Agree (sample x c ∷ cs)
-unfolding nextCounter heard unless Account.waiting Account.seen expected CallList.answered
+unfolding nextCounter heard ifAccepted Account.waiting Account.seen expected answered
 agree-refused x c cs k e g =
     carry (sample x c) cs (sample-refuses (after cs) x c k (g .within) (rw (g .next) e)) g (rw e) (rw e) refl (g .within) refl refl (g .timed) (g .waiting) (g .seen) (rw e)
 
@@ -192,7 +191,7 @@ module _ (s a b : List ℕ) (cs : List Call) (d : Bool) (v : Waiting) (e : sized
   expected-take = rw (e, f)
 
 agree-take : (s a b : List ℕ) (cs : List Call) → Agree cs → Agree (CallList.take s a b ∷ cs)
-unfolding nextCounter heard seenIf untaken taken Account.waiting lastHanded
+unfolding nextCounter heard seenIf untaken withWaits Account.waiting lastHanded
 agree-take s a b cs g = go (sized s a b) refl (Account.waiting cs) refl
   where
     r : Receiver
@@ -204,26 +203,26 @@ agree-take s a b cs g = go (sized s a b) refl (Account.waiting cs) refl
     go : (d : Bool) → sized s a b ≡ d → (v : Waiting) → Account.waiting cs ≡ v → Agree (CallList.take s a b ∷ cs)
     go false e v f =
         let n = seen-is s a b cs false v e f in
-        carry (CallList.take s a b) cs (take-leaves r s a b false v e (rw f at (g .waiting))) g refl refl refl (g .within) refl refl (g .timed) (rw n (g .waiting)) (rw n (g .seen)) (expected-take s a b cs false v e f)
+        carry (CallList.take s a b) cs (take-leaves r s a b false v e (g .within) (rw f at (g .waiting))) g refl refl refl (g .within) refl refl (g .timed) (rw n (g .waiting)) (rw n (g .seen)) (expected-take s a b cs false v e f)
     go true e nothing f =
         let n = seen-is s a b cs true nothing e f in
-        carry (CallList.take s a b) cs (take-leaves r s a b true nothing e (rw f at (g .waiting))) g refl refl refl (g .within) refl refl (g .timed) (rw n (g .waiting)) (rw n (g .seen)) (expected-take s a b cs true nothing e f)
-    go true e (waits k v) f =
-        let n = seen-is s a b cs true (waits k v) e f in
-        carry (CallList.take s a b) cs (take-leaves r s a b true (waits k v) e (rw f at (g .waiting))) g refl refl refl (take-within r (g .within)) refl refl (g .timed)
-        (rw (n, newer-none ws) (record { stands = refl; subslot1 = g .waiting .subslot1; subslot2 = g .waiting .subslot2 })) (rw n (omega arith)) (expected-take s a b cs true (waits k v) e f)
+        carry (CallList.take s a b) cs (take-leaves r s a b true nothing e (g .within) (rw f at (g .waiting))) g refl refl refl (g .within) refl refl (g .timed) (rw n (g .waiting)) (rw n (g .seen)) (expected-take s a b cs true nothing e f)
+    go true e (waits h) f =
+        let n = seen-is s a b cs true (waits h) e f in
+        carry (CallList.take s a b) cs (take-leaves r s a b true (waits h) e (g .within) (rw f at (g .waiting))) g refl refl refl (taken-within r (g .within)) refl refl (g .timed)
+        (rw (n, newer-none ws) (record { stands = refl; whole = g .waiting .whole })) (rw n (omega arith)) (expected-take s a b cs true (waits h) e f)
 
 -- an accepted sample
 pub heard-is : (x : ComplexSample) (c : ℤ) (cs : List Call) → sampleRefusal (nextCounter cs) x c ≡ 0 → heard (sample x c ∷ cs) ≡ x ∷ heard cs
-unfolding heard unless
+unfolding heard ifAccepted
 heard-is x c cs e = rw e
 
 next-is : (x : ComplexSample) (c : ℤ) (cs : List Call) (n : ℕ) → sampleRefusal (nextCounter cs) x c ≡ 0 → c ≡ pos n → nextCounter (sample x c ∷ cs) ≡ pos (suc n)
-unfolding nextCounter unless
+unfolding nextCounter ifAccepted
 next-is x c cs n e q = let h : n + 1 ≡ suc n = omega arith in rw (e, q) (ap pos h)
 
 expected-done : (x : ComplexSample) (c : ℤ) (cs : List Call) → sampleRefusal (nextCounter cs) x c ≡ 0 → done ≡ expected (sample x c) cs
-unfolding expected CallList.answered
+unfolding expected answered ifAccepted
 expected-done x c cs e = rw e
 
 pub seen-sample : (x : ComplexSample) (c : ℤ) (cs : List Call) → Account.seen (sample x c ∷ cs) ≡ Account.seen cs
@@ -231,15 +230,15 @@ unfolding Account.seen
 seen-sample x c cs = refl
 
 after-within : (x : ComplexSample) (c : ℤ) (cs : List Call) → Within (after cs) → Within (after (sample x c ∷ cs))
-unfolding after leaves
+unfolding after outcome
 after-within x c cs w = sample-within (after cs) x c w
 
 accepts : (x : ComplexSample) (c : ℤ) (cs : List Call) (r′ : Receiver) (w : List Window) → Agree cs
-    → Leaves (after cs) (sample x c) (expecting r′ (pos (length (heard cs)) +ℤ pos 1)) (w ++ []) done
+    → Leaves (after cs) (sample x c) (withNext r′ (pos (length (heard cs)) +ℤ pos 1)) (w ++ []) done
     → sampleRefusal (nextCounter cs) x c ≡ 0 → c ≡ pos (length (heard cs))
     → Stepped (after cs) r′ w (length (heard cs)) (signalOf (x ∷ heard cs)) (tracked (heard cs)) (tracked (x ∷ heard cs))
     → Agree (sample x c ∷ cs)
-unfolding accountOf account Account.waiting expecting
+unfolding accountOf account Account.waiting withNext
 accepts x c cs r′ w g o z q st =
     let A = after-is (sample x c) cs o in
     let H = heard-is x c cs z in
@@ -273,7 +272,7 @@ agree-accepted x c cs e q g =
     let few : n < 137438953472 = omega (arith, a .below, ap up (sym (a .is) ∙ q)) in
     accepts x c cs (processSample r x (pos n)) (windowOf r x (pos n)) g (sample-accepts r x c n (g .within) (rw (g .next) e) (g .next ∙ g .counted) q) e q
     (subst (λ (s : Signal). Stepped r (processSample r x (pos n)) (windowOf r x (pos n)) n s (tracked (heard cs)) (turn (tracked (heard cs)) n s))
-    (ap (λ (s : Signal). hear s x) (g .signal)) (stepped r x n (tracked (heard cs)) (g .timed) few))
+    (ap (λ (s : Signal). hear s x) (g .signal)) (stepped r x n (tracked (heard cs)) (g .timed) (g .waiting .whole) few))
 
 -- ---- THE SIMULATION: after every list of calls the receiver agrees with the account
 pub agree : (cs : List Call) → Counted cs → Agree cs

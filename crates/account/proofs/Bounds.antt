@@ -1,11 +1,12 @@
 -- Nothing that calls can leave is changed by reading it as a valid receiver: a lock sets the reference time from a counter, each window
--- moves it by at most one and has a counter of its own, and every ready time is a slot's or a counter's.
-use mathlib.Core.Path.{_≡_, refl, ap, sym, _∙_}
+-- moves it by at most one and has a counter of its own, and every ready time is a slot's or a counter's. Of slot numbers and views: Numbers.
+use mathlib.Core.Path.{_≡_, refl, ap, sym}
 use mathlib.Core.Bool.{Bool, true, false, true≢false, cond, _||_}
+use mathlib.Core.List.{List, []}
 use mathlib.Core.Logic.{_⊎_, inl, inr}
 use Prim.Native.Nat.{ℕ, zero, suc, _+_, _-_, _*_, _%_, _≤_, _<_, min}
 use native.Mathlib.Omega.{arith}
-use native.Mathlib.Nat.{mod-eq-of-lt, mod-lt}
+use native.Mathlib.Nat.{mod-eq-of-lt}
 use lib.IntN.{ℤ, pos, negsuc, _+ℤ_, _-ℤ_}
 use lib.Signed.{ltZ}
 use lib.Dec.{leb, ltb}
@@ -17,16 +18,20 @@ use Rattle.dsp_types.specs.Refusals.{beyond, outOfCount}
 use Rattle.dsp_types.specs.Samples.{silence}
 use Rattle.dsp_types.specs.Times.{slots, slotOf}
 use Rattle.burst_finder.specs.Search.{findSync}
+use Rattle.demodulator.specs.Signal.{windowBits}
 use Rattle.demodulator.specs.Receiver as R
 use Rattle.demodulator.specs.declared.Mode.{Mode}
 use Rattle.demodulator.specs.declared.Mode.the-variants.{Idle, DlUnsynchronized, Dl, Ul}
-use Rattle.demodulator.specs.Receiver.{Clock, Lock, Receiver, new, setSlot, addSlots, withClock, processSample, closeWindow}
-use Rattle.demodulator.specs.Calls.{validTime, validClock, validCount, valid, sampleRefusal, missing, feedZeros, expecting, accept, unless, sampleOf, taken, followRefusal, followed, followOf, retuned, slotWhen}
-use Rattle.account.specs.Reachable.{Reachable, anew, sampled, emptied, told}
-use Rattle.account.specs.Tracked.{windowBits}
+use Rattle.demodulator.specs.Receiver.{Clock, Lock, BurstView, Receiver, withMode, withClock, withLock, withWaits, withSlot, withNext, withSignal, new, setSlot, addSlots, processSample, closeWindow, missing, feedZeros, accept}
+use Rattle.demodulator.specs.Valid.{validTime, validClock, validLock, validCount, valid, validSlot}
+use Rattle.demodulator.specs.Calls.{Outcome, unless, sampleRefusal, sampled, sampleOutcome, takeRefusal, taken, takeOutcome, followRefusal, slotWhen, following, followed, followOutcome}
+use Rattle.account.specs.Reachable as Reachable
+use Rattle.account.specs.Reachable.{Reachable, anew, told}
 use Rattle.account.proofs.Laws.{Placed, placed}
 use Rattle.account.proofs.Times.{ready-parts, found-parts}
+use Rattle.account.proofs.Views.{Views, none-valid, valid-slot}
 use Rattle.account.proofs.Simulation.{shifted, shifted-parts, gap-span, advanced, advances}
+use Rattle.account.proofs.Numbers.{slot-below, accept-step}
 
 -- ---- what a receiver that expects the counter n is bounded by
 
@@ -46,27 +51,20 @@ spare Ul = 0
 
 -- the slot timing: late and early are the reference time's distances from 0
 pub record Timely (m : Mode) (c : Clock) (n : ℕ) : Type 0 where
-  pub current : c .currentSlot < slots
   pub late : up (c .referenceTime) ≤ reach m n
   pub early : dn (c .referenceTime) ≤ reach m n + 2050
   pub ready-late : up (c .slotReadyTime) ≤ 549755813888
   pub ready-early : dn (c .slotReadyTime) ≤ 549755813888
 
--- the rest of the state but for the expected counter
+-- .. and the misses
 pub record Bounded (r : Receiver) (n : ℕ) : Type 0 where
   pub timely : Timely (r .mode) (r .clock) n
   pub misses : r .lock .misses + spare (r .mode) ≤ 100
-  pub time : r .slot .time < slots
 
 -- ---- integers
 one-part : (z : ℤ) → (up z ≡ 0) ⊎ (dn z ≡ 0)
 one-part (pos n) = inr refl
 one-part (negsuc n) = inl refl
-
-slot-below : (z : ℤ) → slotOf z < slots
-unfolding slotOf
-slot-below (pos n) = mod-lt n (omega arith)
-slot-below (negsuc n) = omega arith
 
 reach-most : (m : Mode) (n : ℕ) → n ≤ 137438953472 → reach m n ≤ 137438953472
 unfolding reach
@@ -107,7 +105,7 @@ unfolding setSlot
 timely-set m j z s n h l a b =
     let k = reach-most m n l in
     let p = begin-parts j z s h (omega (arith, a, k)) (omega (arith, b, k)) in
-    record { current = h; late = a; early = b; ready-late = p .0; ready-early = p .1 }
+    record { late = a; early = b; ready-late = p .0; ready-early = p .1 }
 
 timely-add : (m : Mode) (c : Clock) (j : ℤ) (n : ℕ) → n ≤ 137438953472 → Timely m c n → Timely m (addSlots m c j) n
 unfolding addSlots
@@ -116,7 +114,7 @@ timely-add m c j n l t = timely-set m m (c .referenceTime) (slotOf (pos (c .curr
 timely-more : (m : Mode) (c : Clock) (n k : ℕ) → n ≤ k → Timely m c n → Timely m c k
 timely-more m c n k h t =
     let r = reach-more m n k h in
-    record { current = t .current; late = omega (arith, t .late, r); early = omega (arith, t .early, r); ready-late = t .ready-late; ready-early = t .ready-early }
+    record { late = omega (arith, t .late, r); early = omega (arith, t .early, r); ready-late = t .ready-late; ready-early = t .ready-early }
 
 -- a window closed at the counter k: the ready time is the counter less 16
 closed-at : (k : ℕ) (z : ℤ) → eqZ (pos k -ℤ pos 16) z ≡ true → up z + 16 ≡ k + dn z
@@ -148,7 +146,7 @@ unfolding spare
 spare-dl m e = rw e
 
 bounded-more : (r : Receiver) (n k : ℕ) → n ≤ k → Bounded r n → Bounded r k
-bounded-more r n k h b = record { timely = timely-more (r .mode) (r .clock) n k h (b .timely); misses = b .misses; time = b .time }
+bounded-more r n k h b = record { timely = timely-more (r .mode) (r .clock) n k h (b .timely); misses = b .misses }
 
 -- ---- the next window
 on-bounded : (r : Receiver) (k : ℕ) → k < 137438953472 → Bounded r k → up (r .clock .slotReadyTime) + 16 ≡ k + dn (r .clock .slotReadyTime)
@@ -160,13 +158,12 @@ on-bounded r k few b at =
     let y = sum (r .clock .slotReadyTime) (pos 400) in
     let s : (up z ≤ 549755813888) × (dn z ≤ 549755813888) = elim (one-part z) [ inl e ↦ omega (arith, y, e, at, few) | inr e ↦ omega (arith, y, e, at, few) ] in
     record {
-      timely = record { current = t .current; late = t .late; early = t .early; ready-late = s .0; ready-early = s .1 };
+      timely = record { late = t .late; early = t .early; ready-late = s .0; ready-early = s .1 };
       misses = b .misses;
-      time = b .time;
     }
 
 advanced-bounded : (r : Receiver) (k : ℕ) → r .mode ≡ Dl → k < 137438953472 → Bounded r k → Bounded (advanced r) (suc k)
-unfolding advanced
+unfolding advanced withClock withLock
 advanced-bounded r k m few b =
     let e : Float = r .lock .timingError in
     let z : ℤ = shifted e (r .clock .referenceTime) in
@@ -178,22 +175,21 @@ advanced-bounded r k m few b =
     record {
       timely = timely-set (r .mode) (r .mode) z (slotOf (pos (r .clock .currentSlot) +ℤ pos 1)) (suc k) (slot-below (pos (r .clock .currentSlot) +ℤ pos 1)) (omega arith) (omega (arith, s, q)) (omega (arith, s, q));
       misses = b .misses;
-      time = b .time;
     }
 
 next-bounded : (r : Receiver) (n : ℕ) → n ≤ 137438953472 → Bounded r n → Bounded (R.nextSlot r) n
 unfolding R.nextSlot withClock
-next-bounded r n few b = record { timely = timely-add (r .mode) (r .clock) (pos 1) n few (b .timely); misses = b .misses; time = b .time }
+next-bounded r n few b = record { timely = timely-add (r .mode) (r .clock) (pos 1) n few (b .timely); misses = b .misses }
 
 -- ---- a window's bits
 -- a find sets the reference time from the counter
 found-bounded : (r : Receiver) (k place : ℕ) → k < 137438953472 → Placed place → Bounded r k → up (r .clock .slotReadyTime) + 16 ≡ k + dn (r .clock .slotReadyTime) → Bounded (R.found r place) k
-unfolding R.found R.emptied setSlot reach spare
+unfolding R.found withMode withClock withLock withSlot setSlot reach spare
 found-bounded r k place few p b at =
     let z : ℤ = R.found r place .clock .referenceTime in
     let y = found-parts (r .clock .slotReadyTime) place (p .half) (p .even) (p .most) in
     let s : (up z ≤ k) × (dn z ≤ k + 2050) = elim (one-part z) [ inl e ↦ omega (arith, y, e, p, at) | inr e ↦ omega (arith, y, e, p, at) ] in
-    record { timely = timely-set Dl DlUnsynchronized z (slotOf (negsuc 0)) k (slot-below (negsuc 0)) (omega arith) (s .0) (s .1); misses = omega arith; time = omega arith }
+    record { timely = timely-set Dl DlUnsynchronized z (slotOf (negsuc 0)) k (slot-below (negsuc 0)) (omega arith) (s .0) (s .1); misses = omega arith }
 
 lock-misses : (l : Lock) (timing : Float) (type : ℕ) → l .misses < 100 → R.lockAfter l timing type .misses ≤ 100
 unfolding R.lockAfter
@@ -201,37 +197,24 @@ lock-misses l timing zero h = omega arith
 lock-misses l timing (suc type) h = omega arith
 
 -- a locked window: one miss more at most, and with the hundredth it is in search
-slot-bounded : (f : R.Finder) (l : Lock) (r : Receiver) (k : ℕ) → r .mode ≡ Dl → Bounded r k → l .misses ≤ 100
-    → up (r .clock .slotReadyTime) + 16 ≡ k + dn (r .clock .slotReadyTime) → Judged (R.downlinkWindow f l r) k
-unfolding R.downlinkWindow R.modeAfter R.handed reach spare
-slot-bounded f l r k m b few at = go (leb 100 (l .misses)) refl
+slot-bounded : (v : BurstView) (l : Lock) (r : Receiver) (k : ℕ) → r .mode ≡ Dl → Bounded r k → l .misses ≤ 100
+    → up (r .clock .slotReadyTime) + 16 ≡ k + dn (r .clock .slotReadyTime) → Judged (R.downlinkWindow v l r) k
+unfolding R.downlinkWindow R.handOver withMode withLock withWaits withSlot R.modeAfter reach spare
+slot-bounded v l r k m b few at = record { bounded = record { timely = timely (leb 100 (l .misses)); misses = go (leb 100 (l .misses)) refl }; at = λ h. at }
   where
-    late : up (r .clock .referenceTime) ≤ k
-    late = omega (arith, b .timely .late, reach-dl (r .mode) k m)
+    downlink : (m : Mode) → reach m k ≡ k → Timely m (r .clock) k
+    downlink j e =
+        let t : Timely (r .mode) (r .clock) k = b .timely in
+        let f = reach-dl (r .mode) k m in
+        record { late = omega (arith, t .late, e, f); early = omega (arith, t .early, e, f); ready-late = t .ready-late; ready-early = t .ready-early }
 
-    early : dn (r .clock .referenceTime) ≤ k + 2050
-    early = omega (arith, b .timely .early, reach-dl (r .mode) k m)
+    timely : (c : Bool) → Timely (cond c DlUnsynchronized Dl) (r .clock) k
+    timely true = downlink DlUnsynchronized refl
+    timely false = downlink Dl refl
 
-    go : (c : Bool) → leb 100 (l .misses) ≡ c
-        → Judged (record { mode = cond c DlUnsynchronized Dl; clock = r .clock; lock = l; slot = record { available = true; time = r .clock .currentSlot; full = f; subslot1 = r .slot .subslot1; subslot2 = r .slot .subslot2 }; next = r .next; signal = r .signal }) k
-    go true e =
-        record {
-          bounded = record {
-            timely = record { current = b .timely .current; late = late; early = early; ready-late = b .timely .ready-late; ready-early = b .timely .ready-early };
-            misses = omega (arith, few);
-            time = b .timely .current;
-          };
-          at = λ h. at;
-        }
-    go false e =
-        record {
-          bounded = record {
-            timely = record { current = b .timely .current; late = late; early = early; ready-late = b .timely .ready-late; ready-early = b .timely .ready-early };
-            misses = omega (arith, leb-false 100 (l .misses) e);
-            time = b .timely .current;
-          };
-          at = λ h. at;
-        }
+    go : (c : Bool) → leb 100 (l .misses) ≡ c → l .misses + spare (cond c DlUnsynchronized Dl) ≤ 100
+    go true e = omega (arith, few)
+    go false e = omega (arith, leb-false 100 (l .misses) e)
 
 unlike : Dl ≡ DlUnsynchronized → ⊥
 unlike e = let z : _≡_ {A = ℕ} 0 1 = cc in omega arith
@@ -239,21 +222,21 @@ unlike e = let z : _≡_ {A = ℕ} 0 1 = cc in omega arith
 -- a search window
 search-bounded : (r : Receiver) (k : ℕ) (d : Bool) → leb (findSync (windowBits (r .signal)) .dist) 1 ≡ d → k < 137438953472 → Bounded r k
     → up (r .clock .slotReadyTime) + 16 ≡ k + dn (r .clock .slotReadyTime) → Judged (R.searchWindow d (findSync (windowBits (r .signal)) .pos) r) k
-unfolding R.searchWindow R.notFoundYet R.emptied R.found
+unfolding R.searchWindow R.notFoundYet withSlot R.found withMode
 search-bounded r k true e few b at =
     record {
       bounded = found-bounded r k (findSync (windowBits (r .signal)) .pos) few (placed (r .signal)) b at;
       at = λ h. absurd (unlike h);
     }
-search-bounded r k false e few b at = record { bounded = record { timely = b .timely; misses = b .misses; time = b .time }; at = λ h. at }
+search-bounded r k false e few b at = record { bounded = record { timely = b .timely; misses = b .misses }; at = λ h. at }
 
 judged : (m : Mode) (r : Receiver) (k : ℕ) → r .mode ≡ m → k < 137438953472 → Bounded r k → up (r .clock .slotReadyTime) + 16 ≡ k + dn (r .clock .slotReadyTime)
     → Judged (R.processPastSamples m r) k
-unfolding R.processPastSamples R.uplinkWindow R.uplinkSlot
+unfolding R.processPastSamples R.handOver withWaits withSlot
 judged Idle r k m few b at = record { bounded = b; at = λ h. at }
 judged DlUnsynchronized r k m few b at = search-bounded r k (leb (findSync (windowBits (r .signal)) .dist) 1) refl few b at
 judged Dl r k m few b at = slot-bounded _ _ r k m b (lock-misses (r .lock) _ _ (omega (arith, b .misses, spare-dl (r .mode) m))) at
-judged Ul r k m few b at = record { bounded = record { timely = b .timely; misses = b .misses; time = slot-below _ }; at = λ h. at }
+judged Ul r k m few b at = record { bounded = record { timely = b .timely; misses = b .misses }; at = λ h. at }
 
 -- the next window
 scheduled : (m : Mode) (r : Receiver) (k : ℕ) → r .mode ≡ m → k < 137438953472 → Judged r k → Bounded (R.schedule m r) (suc k)
@@ -274,9 +257,9 @@ close-bounded true r k e few b = window-bounded r k few b (closed-at k (r .clock
 close-bounded false r k e few b = bounded-more r k (suc k) (omega arith) b
 
 skip-bounded : (d : Bool) (t : ℤ) (r : Receiver) (x : ComplexSample) (k : ℕ) → k < 137438953472 → Bounded r k → Bounded (R.skipIf d t (R.listen r x)) k
-unfolding R.skipIf R.listen withClock
-skip-bounded true t r x k few b = record { timely = timely-add (r .mode) (r .clock) (R.slotsToSkip t) k (omega arith) (b .timely); misses = b .misses; time = b .time }
-skip-bounded false t r x k few b = record { timely = b .timely; misses = b .misses; time = b .time }
+unfolding R.skipIf R.listen withClock withSignal
+skip-bounded true t r x k few b = record { timely = timely-add (r .mode) (r .clock) (R.slotsToSkip t) k (omega arith) (b .timely); misses = b .misses }
+skip-bounded false t r x k few b = record { timely = b .timely; misses = b .misses }
 
 pub process-bounded : (r : Receiver) (x : ComplexSample) (n k : ℕ) → n ≤ k → k < 137438953472 → Bounded r n → Bounded (processSample r x (pos k)) (suc k)
 unfolding processSample R.arrived R.closes
@@ -298,35 +281,42 @@ pub record Within (r : Receiver) : Type 0 where
   pub next : r .next ≡ pos count
   pub most : count ≤ 137438953472
   pub bounded : Bounded r count
+  pub current : r .clock .currentSlot < slots
+  pub time : r .slot .time < slots
+  pub views : Views (r .slot)
 
 valid-time : (most : ℕ) (z : ℤ) → up z ≤ most → dn z ≤ most → validTime most z ≡ z
 unfolding validTime
 valid-time most (pos n) h k = rw (le-leb n most h)
 valid-time most (negsuc n) h k = rw (le-leb n most (omega arith))
 
-pub valid-count : (r : Receiver) → Within r → validCount (r .next) ≡ r .next
-unfolding validCount
-valid-count r w = rw (w .next, ltZ-no (pos (w .count)) (pos 0) (omega arith), ltZ-no (pos 137438953472) (pos (w .count)) (omega (arith, w .most)))
+module _ (r : Receiver) (w : Within r) where
+  pub valid-count : validCount (r .next) ≡ r .next
+  unfolding validCount
+  valid-count = rw (w .next, ltZ-no (pos (w .count)) (pos 0) (omega arith), ltZ-no (pos 137438953472) (pos (w .count)) (omega (arith, w .most)))
 
-pub valid-same : (r : Receiver) → Within r → valid r ≡ r
-unfolding valid validClock
-valid-same r w =
-    let b : Bounded r (w .count) = w .bounded in
-    let m = reach-most (r .mode) (w .count) (w .most) in
-    let z = valid-time 549755813888 (r .clock .referenceTime) (omega (arith, b .timely, m)) (omega (arith, b .timely, m)) in
-    let y = valid-time 1099511627775 (r .clock .slotReadyTime) (omega (arith, b .timely)) (omega (arith, b .timely)) in
-    let s : r .clock .currentSlot % slots ≡ r .clock .currentSlot = mod-eq-of-lt (b .timely .current) in
-    let k : min 100 (r .lock .misses) ≡ r .lock .misses = omega (arith, b .misses) in
-    let n : validCount (r .next) ≡ r .next = valid-count r w in
-    λ i.
-    record {
-      mode = r .mode;
-      clock = record { referenceTime = z i; slotReadyTime = y i; currentSlot = s i };
-      lock = record { timingError = r .lock .timingError; misses = k i };
-      slot = r .slot;
-      next = n i;
-      signal = r .signal;
-    }
+  clock-same : validClock (r .clock) ≡ r .clock
+  unfolding validClock
+  clock-same =
+      let t : Timely (r .mode) (r .clock) (w .count) = w .bounded .timely in
+      let m = reach-most (r .mode) (w .count) (w .most) in
+      let z = valid-time 549755813888 (r .clock .referenceTime) (omega (arith, t, m)) (omega (arith, t, m)) in
+      let y = valid-time 1099511627775 (r .clock .slotReadyTime) (omega (arith, t)) (omega (arith, t)) in
+      let s : r .clock .currentSlot % slots ≡ r .clock .currentSlot = mod-eq-of-lt (w .current) in
+      λ i. record { referenceTime = z i; slotReadyTime = y i; currentSlot = s i }
+
+  lock-same : validLock (r .lock) ≡ r .lock
+  unfolding validLock
+  lock-same =
+      let k : min 100 (r .lock .misses) ≡ r .lock .misses = omega (arith, w .bounded .misses) in
+      λ i. record { timingError = r .lock .timingError; misses = k i }
+
+  pub valid-same : valid r ≡ r
+  unfolding valid withClock withLock withNext
+  valid-same = rw (clock-same, lock-same, valid-count)
+
+  pub slot-same : validSlot (r .slot) ≡ r .slot
+  slot-same = valid-slot (r .slot) (w .time) (w .views)
 
 -- ---- the calls
 
@@ -359,28 +349,55 @@ missing-most n k h = rw e (omega arith)
     e = same (pos k -ℤ pos n) (pos (k - n)) (omega (arith, less (pos k) (pos n)))
 
 accept-within : (r : Receiver) (x : ComplexSample) (k : ℕ) → k < 137438953472 → (w : Within r) → w .count ≤ k → Within (accept r x (pos k))
-unfolding accept expecting
+unfolding accept withNext
 accept-within r x k few w h =
     let n : ℕ = w .count in
     let j : ℕ = missing (pos k -ℤ r .next) in
     let l : n + j ≤ k = rw (w .next) (missing-most n k h) in
     let b : Bounded (processSample (feedZeros j r (pos k)) x (pos k)) (suc k) = process-bounded (feedZeros j r (pos k)) x k k (omega arith) few (zeros-bounded j r n k l few (w .bounded)) in
-    record { count = suc k; next = ap pos add-one; most = few; bounded = record { timely = b .timely; misses = b .misses; time = b .time } }
+    let s = accept-step r x (pos k) (w .current) in
+    record {
+      count = suc k;
+      next = ap pos add-one;
+      most = few;
+      bounded = record { timely = b .timely; misses = b .misses };
+      current = s .current;
+      time = s .time (w .time);
+      views = s .views (w .views);
+    }
   where
     add-one : k + 1 ≡ suc k
     add-one = omega arith
 
-pub sample-within : (r : Receiver) (x : ComplexSample) (c : ℤ) → Within r → Within (sampleOf r x c)
-unfolding sampleOf unless
-sample-within r x c w = rw (valid-count r w, valid-same r w) (go (sampleRefusal (r .next) x c) refl)
-  where
-    go : (d : ℕ) → sampleRefusal (r .next) x c ≡ d → Within (unless d (accept r x c) r)
-    go zero e = let a : Accepted (w .count) c = accepted-at (r .next) x c (w .count) e (w .next) in rw (a .is) (accept-within r x (a .counter) (a .below) w (a .least))
-    go (suc d) e = w
+-- a refused call leaves the receiver, and one that is not refused comes to o
+unless-within : (n : ℕ) (r : Receiver) (lent : List (List ℕ)) (o : Outcome) → Within r → (n ≡ 0 → Within (o .receiver)) → Within (unless n r lent o .receiver)
+unfolding unless
+unless-within zero r lent o w h = h refl
+unless-within (suc n) r lent o w h = w
 
-pub take-within : (r : Receiver) → Within r → Within (taken r)
-unfolding taken
-take-within r w = record { count = w .count; next = w .next; most = w .most; bounded = record { timely = w .bounded .timely; misses = w .bounded .misses; time = w .bounded .time } }
+pub sample-within : (r : Receiver) (x : ComplexSample) (c : ℤ) → Within r → Within (sampleOutcome r x c .receiver)
+unfolding sampleOutcome sampled
+sample-within r x c w =
+    rw (valid-same r w)
+    (unless-within (sampleRefusal (r .next) x c) r [] (sampled r x c) w
+    (λ e. let a : Accepted (w .count) c = accepted-at (r .next) x c (w .count) e (w .next) in rw (a .is) (accept-within r x (a .counter) (a .below) w (a .least))))
+
+pub taken-within : (r : Receiver) → Within r → Within (withWaits r false)
+unfolding withWaits
+taken-within r w =
+    record {
+      count = w .count;
+      next = w .next;
+      most = w .most;
+      bounded = record { timely = w .bounded .timely; misses = w .bounded .misses };
+      current = w .current;
+      time = w .time;
+      views = w .views;
+    }
+
+take-within : (r : Receiver) (slot subslot1 subslot2 : List ℕ) → Within r → Within (takeOutcome r slot subslot1 subslot2 .receiver)
+unfolding takeOutcome taken
+take-within r s a b w = unless-within (takeRefusal s a b (r .waits)) r _ (taken r (validSlot (r .slot))) w (λ e. taken-within r w)
 
 -- what Idle and Ul share
 record Follower (m : Mode) (n : ℕ) : Type 0 where
@@ -394,16 +411,6 @@ follower DlUnsynchronized n e = absurd (omega (arith, e))
 follower Dl n e = absurd (omega (arith, e))
 follower Ul n e = record { reach-is = refl; spare-is = refl }
 
-idle-bounded : (r : Receiver) (n : ℕ) → Follower (r .mode) n → Bounded r n → Bounded (retuned r Idle (r .clock .referenceTime) (r .clock .currentSlot)) n
-unfolding retuned reach spare
-idle-bounded r n f b =
-    let t : Timely (r .mode) (r .clock) n = b .timely in
-    record {
-      timely = record { current = t .current; late = omega (arith, t .late, f .reach-is); early = omega (arith, t .early, f .reach-is); ready-late = t .ready-late; ready-early = t .ready-early };
-      misses = omega (arith, b .misses);
-      time = b .time;
-    }
-
 slot-when : (m : Mode) (a b : ℕ) → a < slots → b < slots → slotWhen m a b < slots
 unfolding slotWhen
 slot-when Idle a b h k = h
@@ -411,53 +418,56 @@ slot-when DlUnsynchronized a b h k = k
 slot-when Dl a b h k = k
 slot-when Ul a b h k = k
 
-uplink-bounded : (r other : Receiver) (n k : ℕ) → other .mode ≡ Dl → k ≤ 137438953472 → Bounded r n → Bounded other k
-    → Bounded (retuned r Ul (other .clock .referenceTime) (slotWhen (r .mode) (other .slot .time) (r .clock .currentSlot))) n
-unfolding retuned reach spare
-uplink-bounded r other n k e h b c =
-    let t : Timely (r .mode) (r .clock) n = b .timely in
-    let o : Timely (other .mode) (other .clock) k = c .timely in
-    let m = reach-dl (other .mode) k e in
-    record {
-      timely = record {
-        current = slot-when (r .mode) (other .slot .time) (r .clock .currentSlot) (c .time) (t .current);
-        late = omega (arith, o .late, m);
-        early = omega (arith, o .early, m);
-        ready-late = t .ready-late;
-        ready-early = t .ready-early;
-      };
-      misses = omega (arith, b .misses);
-      time = b .time;
-    }
-
 -- an order to follow: a receiver in Idle or Ul takes a reference time that another in Dl has
-follow-bounded : (m : Mode) (r other : Receiver) (n k : ℕ) → Follower (r .mode) n → other .mode ≡ m → k ≤ 137438953472 → Bounded r n → Bounded other k → Bounded (followed m r other) n
-unfolding followed
-follow-bounded Idle r other n k f e h b c = b
-follow-bounded DlUnsynchronized r other n k f e h b c = idle-bounded r n f b
-follow-bounded Dl r other n k f e h b c = uplink-bounded r other n k e h b c
-follow-bounded Ul r other n k f e h b c = b
+module _ (r other : Receiver) (w : Within r) (o : Within other) (f : Follower (r .mode) (w .count)) where
+  abbrev t : Timely (r .mode) (r .clock) (w .count)
+  t = w .bounded .timely
 
-followed-next : (m : Mode) (r other : Receiver) → followed m r other .next ≡ r .next
-unfolding followed retuned
-followed-next Idle r other = refl
-followed-next DlUnsynchronized r other = refl
-followed-next Dl r other = refl
-followed-next Ul r other = refl
+  idle-within : Within (withMode r Idle)
+  unfolding withMode reach spare
+  idle-within =
+      record {
+        count = w .count;
+        next = w .next;
+        most = w .most;
+        bounded = record {
+          timely = record { late = omega (arith, t .late, f .reach-is); early = omega (arith, t .early, f .reach-is); ready-late = t .ready-late; ready-early = t .ready-early };
+          misses = omega (arith, w .bounded .misses);
+        };
+        current = w .current;
+        time = w .time;
+        views = w .views;
+      }
 
-follow-within : (r other : Receiver) → Within r → Within other → Within (followOf r other)
-unfolding followOf unless
-follow-within r other w o = go (followRefusal (r .mode)) refl
-  where
-    go : (d : ℕ) → followRefusal (r .mode) ≡ d → Within (unless d (followed (other .mode) r other) r)
-    go zero e =
-        record {
-          count = w .count;
-          next = followed-next (other .mode) r other ∙ w .next;
-          most = w .most;
-          bounded = follow-bounded (other .mode) r other (w .count) (o .count) (follower (r .mode) (w .count) e) refl (o .most) (w .bounded) (o .bounded);
-        }
-    go (suc d) e = w
+  uplink-within : other .mode ≡ Dl → Within (following Dl r other)
+  unfolding following withMode withClock reach spare
+  uplink-within e =
+      let u : Timely (other .mode) (other .clock) (o .count) = o .bounded .timely in
+      let m = reach-dl (other .mode) (o .count) e in
+      record {
+        count = w .count;
+        next = w .next;
+        most = w .most;
+        bounded = record {
+          timely = record { late = omega (arith, u .late, m, o .most); early = omega (arith, u .early, m, o .most); ready-late = t .ready-late; ready-early = t .ready-early };
+          misses = omega (arith, w .bounded .misses);
+        };
+        current = slot-when (r .mode) (other .slot .time) (r .clock .currentSlot) (o .time) (w .current);
+        time = w .time;
+        views = w .views;
+      }
+
+  following-within : (m : Mode) → other .mode ≡ m → Within (following m r other)
+  unfolding following
+  following-within Idle e = w
+  following-within DlUnsynchronized e = idle-within
+  following-within Dl e = uplink-within e
+  following-within Ul e = w
+
+follow-within : (r other : Receiver) → Within r → Within other → Within (followOutcome r other .receiver)
+unfolding followOutcome followed
+follow-within r other w o =
+    unless-within (followRefusal (r .mode)) r [] (followed r other) w (λ e. following-within r other w o (follower (r .mode) (w .count) e) (other .mode) refl)
 
 -- ---- a new receiver
 spare-most : (m : Mode) → 0 + spare m ≤ 100
@@ -468,21 +478,24 @@ spare-most Dl = omega arith
 spare-most Ul = omega arith
 
 pub new-within : (m : Mode) → Within (new m)
-unfolding new R.noSlot
+unfolding new R.noSlot setSlot
 new-within m =
     record {
       count = 0;
       next = refl;
       most = omega arith;
-      bounded = record { timely = timely-set m m (pos 0) 0 0 (omega arith) (omega arith) (omega arith) (omega arith); misses = spare-most m; time = omega arith };
+      bounded = record { timely = timely-set m m (pos 0) 0 0 (omega arith) (omega arith) (omega arith) (omega arith); misses = spare-most m };
+      current = omega arith;
+      time = omega arith;
+      views = record { full = none-valid; subslot1 = none-valid; subslot2 = none-valid };
     }
 
--- ---- THE LAW: every receiver that calls can leave is valid
+-- ---- THE LAW: every receiver that calls can leave is valid, as a sample reads it and as a take reads its slot
 reachable-within : {r : Receiver} → Reachable r → Within r
 reachable-within (anew m) = new-within m
-reachable-within (sampled {r} h x c) = sample-within r x c (reachable-within h)
-reachable-within (emptied {r} h) = take-within r (reachable-within h)
+reachable-within (Reachable.sampled {r} h x c) = sample-within r x c (reachable-within h)
+reachable-within (Reachable.taken {r} h s a b) = take-within r s a b (reachable-within h)
 reachable-within (told {r} {other} h o) = follow-within r other (reachable-within h) (reachable-within o)
 
-pub reachable-valid : {r : Receiver} → Reachable r → valid r ≡ r
-reachable-valid {r} h = valid-same r (reachable-within h)
+pub reachable-valid : {r : Receiver} → Reachable r → (valid r ≡ r) × (validSlot (r .slot) ≡ r .slot)
+reachable-valid {r} h = let w : Within r = reachable-within h in (valid-same r w, slot-same r w)

@@ -15,6 +15,7 @@ use Rattle.burst_finder.proofs.Distance.{distance-take}
 use Rattle.burst_finder.proofs.Downlink.{flipped, downlink, sync-type, normal1-type, normal2-type}
 use Rattle.slotter.specs.Bursts.{blockRefusal, trainingRefusal, trainingOf, answered, refusal, normalBurst}
 use Rattle.slotter.proofs.Places.{sync-places, normal-places}
+use Rattle.demodulator.specs.Receiver.{viewOn, checked}
 use Rattle.account.specs.Rules.{typeOf}
 use Rattle.account.specs.Account.{Built, sync, normal, Burst}
 
@@ -65,7 +66,7 @@ module _ (bits : List ℕ) (full : length bits ≡ 510) where
   near sent sequence place h e = omega (arith, flipped bits sent sequence place)
 
   normal-type : (n : ℕ) (sent : List ℕ) (b : Bool) → eqb n 1 ≡ b → trainingRefusal n ≡ 0 → 244 ≤ length sent → slice 244 266 sent ≡ trainingOf n → hammingDistance bits sent ≤ 1 → typeOf bits ≡ n
-  unfolding typeOf trainingOf downlink
+  unfolding typeOf checked viewOn trainingOf downlink
   normal-type n sent true e r l t h =
       rw (normal1-type bits full (near sent normal1 244 h (exact-at sent normal1 244 22 l (t ∙ rw e) (omega (arith, lengths)))))
       (sym (eqb-true n 1 e))
@@ -74,7 +75,7 @@ module _ (bits : List ℕ) (full : length bits ≡ 510) where
       (sym (second n e r))
 
   pub burst-type : {type : ℕ} → Burst type bits → typeOf bits ≡ type
-  unfolding typeOf downlink
+  unfolding typeOf checked viewOn downlink
   burst-type b = go (b .built) (b .flipped)
     where
       go : {type : ℕ} {sent : List ℕ} → Built type sent → hammingDistance bits sent ≤ 1 → typeOf bits ≡ type

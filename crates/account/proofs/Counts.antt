@@ -9,9 +9,9 @@ use native.Mathlib.Omega.{arith}
 use native.Mathlib.Decide.{decLe}
 use lib.Dec.{ltb, leb}
 use borrow.Author.Tests.{ltb-true, leb-true, le-leb, lt-leb, lt-ltb, le-ltb}
-use Rattle.demodulator.specs.Calls.{BurstView, burstView}
+use Rattle.demodulator.specs.Receiver.{HandedSlot}
 use Rattle.demodulator.specs.Windows.{Kind, quiet, lock, slot, Window}
-use Rattle.account.specs.Rules.{Account, start, typeOf, slotView, nextMisses, Turn, between, stays, locks, hands, loses}
+use Rattle.account.specs.Rules.{Account, start, typeOf, slotWith, slotIn, nextMisses, Turn, between, stays, locks, hands, loses}
 use Rattle.account.specs.Account as Claim
 use Rattle.account.specs.Account.{runOn, typedOr, trainedOn, heldOn, Soon, ifSlot, inside, closedIn, handedIn}
 
@@ -54,13 +54,13 @@ slot-le : (k : Kind) (m n : ℕ) → m ≤ n → ifSlot k m ≤ ifSlot k n
 unfolding ifSlot
 slot-le quiet m n h = omega arith
 slot-le lock m n h = omega arith
-slot-le (slot s v) m n h = h
+slot-le (slot s) m n h = h
 
 slot-most : (k : Kind) (m : ℕ) → ifSlot k m ≤ m
 unfolding ifSlot
 slot-most quiet m = omega arith
 slot-most lock m = omega arith
-slot-most (slot s v) m = omega arith
+slot-most (slot s) m = omega arith
 
 recent-down : (s t : ℕ) (ws : List Window) → t ≤ s → recent s ws ≤ recent t ws
 unfolding recent
@@ -226,41 +226,41 @@ lawful-locks a n gap l eq e low high =
     }
 
 -- the run and the last training sequence with one slot more, of the type t
-run-slot : (v : BurstView) (m n k : ℕ) (ws : List Window) → m ≡ Claim.run ws → nextMisses (v .type) m ≡ Claim.run (record { counter = n; kind = slot k v } ∷ ws)
+run-slot : (v : HandedSlot) (m n : ℕ) (ws : List Window) → m ≡ Claim.run ws → nextMisses (v .full .type) m ≡ Claim.run (record { counter = n; kind = slot v } ∷ ws)
 unfolding Claim.run runOn
-run-slot v m n k ws e = ap (nextMisses (v .type)) e
+run-slot v m n ws e = ap (nextMisses (v .full .type)) e
 
 trained-by : (t m n gap k : ℕ) → n ≤ k + 1021 * (m + 1) → gap ≤ 1021 → n + gap ≤ typedOr t n k + 1021 * (nextMisses t m + 1)
 unfolding typedOr nextMisses
 trained-by zero m n gap k h g = omega arith
 trained-by (suc t) m n gap k h g = omega arith
 
-trained-slot : (v : BurstView) (m n gap k : ℕ) (ws : List Window) → n ≤ Claim.trained ws + 1021 * (m + 1) → gap ≤ 1021
-    → n + gap ≤ Claim.trained (record { counter = n; kind = slot k v } ∷ ws) + 1021 * (nextMisses (v .type) m + 1)
+trained-slot : (v : HandedSlot) (m n gap : ℕ) (ws : List Window) → n ≤ Claim.trained ws + 1021 * (m + 1) → gap ≤ 1021
+    → n + gap ≤ Claim.trained (record { counter = n; kind = slot v } ∷ ws) + 1021 * (nextMisses (v .full .type) m + 1)
 unfolding Claim.trained trainedOn
-trained-slot v m n gap k ws h g = trained-by (v .type) m n gap (Claim.trained ws) h g
+trained-slot v m n gap ws h g = trained-by (v .full .type) m n gap (Claim.trained ws) h g
 
 hundredth : (t m : ℕ) → nextMisses t m ≡ 100 → m ≡ 99
 unfolding nextMisses
 hundredth zero m e = omega arith
 hundredth (suc t) m e = absurd (omega arith)
 
--- a handed slot with the view v
-lawful-hands : (a : Account) (n gap m : ℕ) (v : BurstView) → Lawful a → n ≡ a .due → a .locked ≡ true → nextMisses (v .type) (a .misses) < 100 → 1019 ≤ gap → gap ≤ 1021
-    → Lawful (record { due = n + gap; locked = true; number = m; misses = nextMisses (v .type) (a .misses); windows = record { counter = n; kind = slot (a .number) v } ∷ a .windows })
+-- a handed slot v
+lawful-hands : (a : Account) (n gap m : ℕ) (v : HandedSlot) → Lawful a → n ≡ a .due → a .locked ≡ true → nextMisses (v .full .type) (a .misses) < 100 → 1019 ≤ gap → gap ≤ 1021
+    → Lawful (record { due = n + gap; locked = true; number = m; misses = nextMisses (v .full .type) (a .misses); windows = record { counter = n; kind = slot v } ∷ a .windows })
 unfolding Claim.held heldOn Soon recent recent-slots ifSlot
 lawful-hands a n gap m v l eq e few low high =
     let s : Fixed a = fixed a l e in
     let b : Bounds a = l .bounds in
     let ws : List Window = a .windows in
-    let r : nextMisses (v .type) (a .misses) ≡ Claim.run (record { counter = n; kind = slot (a .number) v } ∷ ws) = run-slot v (a .misses) n (a .number) ws (s .run) in
+    let r : nextMisses (v .full .type) (a .misses) ≡ Claim.run (record { counter = n; kind = slot v } ∷ ws) = run-slot v (a .misses) n ws (s .run) in
     let z = recent-down (n + gap) (a .due + 1017) ws (omega arith) in
     record {
       bounds = record {
-        held = sym (lt-ltb (Claim.run (record { counter = n; kind = slot (a .number) v } ∷ ws)) 100 (omega (arith, r, few)));
+        held = sym (lt-ltb (Claim.run (record { counter = n; kind = slot v } ∷ ws)) 100 (omega (arith, r, few)));
         soon = λ h. absurd (omega (arith, h, r, few));
-        four = λ k. more-four k n (slot (a .number) v) ws (b .four k) (omega (arith, b .three, recent-down n (a .due) ws (omega arith)));
-        two = λ k. more-two k n (slot (a .number) v) ws (b .two k) (omega (arith, b .slots, slots-down n (a .due) ws (omega arith)));
+        four = λ k. more-four k n (slot v) ws (b .four k) (omega (arith, b .three, recent-down n (a .due) ws (omega arith)));
+        two = λ k. more-two k n (slot v) ws (b .two k) (omega (arith, b .slots, slots-down n (a .due) ws (omega arith)));
         past = omega (arith, near-no (n + gap + 1017) n (omega arith), recent-down (n + gap + 1017) (a .due + 1017) ws (omega arith), b .past);
         three = omega (arith, near-one (n + gap) n, z, b .past);
         slots = omega (arith, near-one (n + gap) n, slots-most (n + gap) ws, z, b .past);
@@ -269,28 +269,28 @@ lawful-hands a n gap m v l eq e few low high =
         locked = refl;
         few = few;
         run = r;
-        trained = trained-slot v (a .misses) n gap (a .number) ws (omega (arith, s .trained, eq)) high;
+        trained = trained-slot v (a .misses) n gap ws (omega (arith, s .trained, eq)) high;
         later = λ h. omega (arith, near-no (n + gap + 2) n (omega arith), recent-down (n + gap + 2) (a .due + 1017) ws (omega arith), b .past);
       });
     }
 
-lawful-loses : (a : Account) (n m : ℕ) (v : BurstView) → Lawful a → n ≡ a .due → a .locked ≡ true → nextMisses (v .type) (a .misses) ≡ 100
-    → Lawful (record { due = n + 400; locked = false; number = m; misses = nextMisses (v .type) (a .misses); windows = record { counter = n; kind = slot (a .number) v } ∷ a .windows })
+lawful-loses : (a : Account) (n m : ℕ) (v : HandedSlot) → Lawful a → n ≡ a .due → a .locked ≡ true → nextMisses (v .full .type) (a .misses) ≡ 100
+    → Lawful (record { due = n + 400; locked = false; number = m; misses = nextMisses (v .full .type) (a .misses); windows = record { counter = n; kind = slot v } ∷ a .windows })
 unfolding Claim.held heldOn Soon recent recent-slots ifSlot
 lawful-loses a n m v l eq e hundred =
     let s : Fixed a = fixed a l e in
     let b : Bounds a = l .bounds in
     let ws : List Window = a .windows in
-    let r : nextMisses (v .type) (a .misses) ≡ Claim.run (record { counter = n; kind = slot (a .number) v } ∷ ws) = run-slot v (a .misses) n (a .number) ws (s .run) in
-    let m99 : a .misses ≡ 99 = hundredth (v .type) (a .misses) hundred in
+    let r : nextMisses (v .full .type) (a .misses) ≡ Claim.run (record { counter = n; kind = slot v } ∷ ws) = run-slot v (a .misses) n ws (s .run) in
+    let m99 : a .misses ≡ 99 = hundredth (v .full .type) (a .misses) hundred in
     let y = s .later (omega arith) in
     let z = recent-down (n + 400) (a .due + 2) ws (omega arith) in
     record {
       bounds = record {
-        held = sym (le-ltb (Claim.run (record { counter = n; kind = slot (a .number) v } ∷ ws)) 100 (omega (arith, r, hundred)));
+        held = sym (le-ltb (Claim.run (record { counter = n; kind = slot v } ∷ ws)) 100 (omega (arith, r, hundred)));
         soon = λ h. omega (arith, s .trained, m99, eq);
-        four = λ k. more-four k n (slot (a .number) v) ws (b .four k) (omega (arith, b .three, recent-down n (a .due) ws (omega arith)));
-        two = λ k. more-two k n (slot (a .number) v) ws (b .two k) (omega (arith, b .slots, slots-down n (a .due) ws (omega arith)));
+        four = λ k. more-four k n (slot v) ws (b .four k) (omega (arith, b .three, recent-down n (a .due) ws (omega arith)));
+        two = λ k. more-two k n (slot v) ws (b .two k) (omega (arith, b .slots, slots-down n (a .due) ws (omega arith)));
         past = omega (arith, near-no (n + 400 + 1017) n (omega arith), recent-down (n + 400 + 1017) (a .due + 1017) ws (omega arith), b .past);
         three = omega (arith, near-one (n + 400) n, z, y);
         slots = omega (arith, near-one (n + 400) n, slots-most (n + 400) ws, z, y);
@@ -304,9 +304,9 @@ lawful-loses a n m v l eq e hundred =
     }
 
 pub lawful-turn : {a a′ : Account} {n : ℕ} {bits : List ℕ} → Turn a n bits a′ → Lawful a → Lawful a′
-unfolding typeOf slotView burstView
+unfolding typeOf slotIn slotWith
 lawful-turn (between h) l = l
 lawful-turn {a} {n = n} (stays e u h) l = lawful-stays a n l e u
 lawful-turn {a} {n = n} (locks gap e u h low high) l = lawful-locks a n gap l e u (omega (arith, low)) (omega (arith, high))
-lawful-turn {a} {n = n} {bits = bits} (hands gap e u f low high) l = lawful-hands a n gap _ (slotView bits) l e u f (omega (arith, low)) (omega (arith, high))
-lawful-turn {a} {n = n} {bits = bits} (loses e u f) l = lawful-loses a n _ (slotView bits) l e u f
+lawful-turn {a} {n = n} {bits = bits} (hands gap e u f low high) l = lawful-hands a n gap _ (slotIn (a .number) bits) l e u f (omega (arith, low)) (omega (arith, high))
+lawful-turn {a} {n = n} {bits = bits} (loses e u f) l = lawful-loses a n _ (slotIn (a .number) bits) l e u f

@@ -1,5 +1,5 @@
 -- DEMAND 3: what every list of calls keeps. The proofs are put together here; the claim is `Demand3` of specs/Account.antt.
-use mathlib.Core.Path.{_≡_, refl, sym, _∙_}
+use mathlib.Core.Path.{_≡_, refl, ap, sym, _∙_}
 use mathlib.Core.Bool.{Bool, true, false}
 use mathlib.Core.List.{List, [], _∷_}
 use Prim.Native.Nat.{ℕ, zero, suc, _+_, _*_, _≤_, _<_}
@@ -11,16 +11,17 @@ use lib.Ieee.{Float}
 use borrow.Author.Tests.{ltb-true, ltb-false, leb-true, leb-false, eqb-true, eqb-false, eq-eqb}
 use Rattle.dsp_types.specs.declared.ComplexSample.{ComplexSample}
 use Rattle.burst_finder.specs.Search.{findSync}
-use Rattle.demodulator.specs.Signal.{Signal}
-use Rattle.demodulator.specs.Receiver.{Receiver, slotTiming}
-use Rattle.demodulator.specs.Calls.{BurstView, burstView, validCount, sampleRefusal, sampleOf, takeRefusal, unless, followRefusal, followOf}
+use Rattle.demodulator.specs.Signal.{Signal, slotTiming, windowBits}
+use Rattle.demodulator.specs.Receiver.{HandedSlot, Receiver}
 use Rattle.demodulator.specs.Windows.{slot, Window}
+use Rattle.demodulator.specs.Valid.{valid, validSlot}
+use Rattle.demodulator.specs.Calls.{Reply, refused, done, took, Outcome, unless, sampleRefusal, sampled, sampleOutcome, takeRefusal, taken, takeOutcome, followRefusal, followed, followOutcome}
 use Rattle.account.specs.CallList as CallList
-use Rattle.account.specs.CallList.{Call, sample, follow, Answer, refused, done, took, answeredTake, answerTo, leaves, lent, filled, lentAfter, after}
-use Rattle.account.specs.Rules.{Turn, between, stays, locks, hands, loses, typeOf, slotView, nextMisses}
-use Rattle.account.specs.Tracked.{Tracked, windowBits, signalOf, slotGap, errorAfter, searchTurn, slotTurn, turn, tracked, account}
+use Rattle.account.specs.CallList.{Call, sample, follow, lent, outcome, after, answers, lentAfter}
+use Rattle.account.specs.Rules.{Turn, between, stays, locks, hands, loses, typeOf, slotWith, slotIn, nextMisses}
+use Rattle.account.specs.Tracked.{Tracked, signalOf, slotGap, errorAfter, searchTurn, slotTurn, turn, tracked, account}
 use Rattle.account.specs.Account as Claim
-use Rattle.account.specs.Account.{Told, waits, changed, lastHanded, toldTake, heard, nextCounter, Counted, accountOf, Gives, Reported, Demand3, Throughout}
+use Rattle.account.specs.Account.{Told, waits, changed, lastHanded, toldTake, heard, nextCounter, Counted, accountOf, expected, expectedAll, filledBy, expectedLent, Gives, Reported, Demand3, Throughout}
 use Rattle.account.proofs.Laws.{finds-holds, holds-finds, Placed, placed, window-type}
 use Rattle.account.proofs.Simulation.{gap-span, turn-no, turn-search, turn-slot}
 use Rattle.account.proofs.Agreement.{Agree, agree, mode-is, take-leaves, heard-is, newer-cons, seen-sample}
@@ -62,77 +63,87 @@ rules (x ∷ older) =
     let t = turned (tracked older) (length older) (signalOf (x ∷ older)) (h .1) in
     ((h .0, t), lawful-turn t (h .1))
 
--- ---- a refused call changes nothing
-unlike-done : {n : ℕ} {A : Type 0} → done ≡ refused n → A
-unlike-done e = absurd (let z : _≡_ {A = ℕ} 0 1 = cc in omega arith)
+-- ---- a refused call changes nothing: neither the receiver nor the slices that it lends
+abbrev Unchanged : Receiver → List (List ℕ) → Outcome → Type 0
+Unchanged r l o = (o .receiver ≡ r) × (o .lent ≡ l)
 
-unlike-took : {n k : ℕ} {s a b : BurstView} {A : Type 0} → took k s a b ≡ refused n → A
-unlike-took e = absurd (let z : _≡_ {A = ℕ} 0 1 = cc in omega arith)
+unless-kept : (k : ℕ) (r : Receiver) (l : List (List ℕ)) (o : Outcome) (n : ℕ) → (o .reply ≡ refused n → ⊥) → unless k r l o .reply ≡ refused n → Unchanged r l (unless k r l o)
+unfolding unless
+unless-kept zero r l o n h e = absurd (h e)
+unless-kept (suc k) r l o n h e = (refl, refl)
 
-kept : (r : Receiver) (c : Call) (n : ℕ) → answerTo r c ≡ refused n → leaves r c ≡ r
-unfolding answerTo leaves sampleOf followOf unless CallList.answered answeredTake
-kept r (sample x c) n e = go (sampleRefusal (validCount (r .next)) x c) _ e
-  where
-    go : (k : ℕ) (r′ : Receiver) → CallList.answered k ≡ refused n → unless k r′ r ≡ r
-    go zero r′ e = unlike-done e
-    go (suc k) r′ e = refl
-kept r (CallList.take s a b) n e = go (takeRefusal s a b (r .slot .available)) _ e
-  where
-    go : (k : ℕ) (r′ : Receiver) → answeredTake k (r .slot) ≡ refused n → unless k r′ r ≡ r
-    go zero r′ e = unlike-took e
-    go (suc k) r′ e = refl
-kept r (follow other) n e = go (followRefusal (r .mode)) _ e
-  where
-    go : (k : ℕ) (r′ : Receiver) → CallList.answered k ≡ refused n → unless k r′ r ≡ r
-    go zero r′ e = unlike-done e
-    go (suc k) r′ e = refl
+done-no : (n : ℕ) → _≡_ {A = Reply HandedSlot} done (refused n) → ⊥
+done-no n e = let z : _≡_ {A = ℕ} 0 1 = cc in omega arith
 
-lent-kept : (r : Receiver) (c : Call) (n : ℕ) → answerTo r c ≡ refused n → lentAfter r c ≡ lent c
-unfolding lentAfter filled
-lent-kept r c n e = rw e
+took-no : (h : HandedSlot) (n : ℕ) → took h ≡ refused n → ⊥
+took-no h n e = let z : _≡_ {A = ℕ} 0 1 = cc in omega arith
+
+kept : (r : Receiver) (c : Call) (n : ℕ) → outcome r c .reply ≡ refused n → Unchanged r (lent c) (outcome r c)
+unfolding outcome lent sampleOutcome sampled takeOutcome taken followOutcome followed
+kept r (sample x c) n e = unless-kept (sampleRefusal (valid r .next) x c) r [] (sampled (valid r) x c) n (done-no n) e
+kept r (CallList.take s a b) n e = unless-kept (takeRefusal s a b (r .waits)) r (s ∷ a ∷ b ∷ []) (taken r (validSlot (r .slot))) n (took-no (validSlot (r .slot)) n) e
+kept r (follow other) n e = unless-kept (followRefusal (r .mode)) r [] (followed r other) n (done-no n) e
+
+-- ---- the lent slices are filled as the answers tell
+unless-fills : (k : ℕ) (r : Receiver) (l : List (List ℕ)) (o : Outcome) → o .lent ≡ filledBy (o .reply) l → unless k r l o .lent ≡ filledBy (unless k r l o .reply) l
+unfolding unless filledBy
+unless-fills zero r l o e = e
+unless-fills (suc k) r l o e = refl
+
+call-fills : (r : Receiver) (c : Call) → outcome r c .lent ≡ filledBy (outcome r c .reply) (lent c)
+unfolding outcome lent sampleOutcome sampled takeOutcome taken followOutcome followed filledBy
+call-fills r (sample x c) = unless-fills (sampleRefusal (valid r .next) x c) r [] (sampled (valid r) x c) refl
+call-fills r (CallList.take s a b) = unless-fills (takeRefusal s a b (r .waits)) r (s ∷ a ∷ b ∷ []) (taken r (validSlot (r .slot))) refl
+call-fills r (follow other) = unless-fills (followRefusal (r .mode)) r [] (followed r other) refl
+
+heads : {A : Type 0} {a b : A} {xs ys : List A} → _≡_ {A = List A} (a ∷ xs) (b ∷ ys) → (a ≡ b) × (xs ≡ ys)
+heads e = (cc, cc)
+
+fills : (cs : List Call) → answers cs ≡ expectedAll cs → lentAfter cs ≡ expectedLent cs
+unfolding answers expectedAll lentAfter expectedLent
+fills [] e = refl
+fills (c ∷ cs) e =
+    let h = heads e in
+    let one : outcome (after cs) c .lent ≡ filledBy (expected c cs) (lent c) = call-fills (after cs) c ∙ ap (λ (a : Reply HandedSlot). filledBy a (lent c)) (h .0) in
+    λ i. one i ∷ fills cs (h .1) i
 
 -- ---- a locked window with a burst's bits
-gives : (k : ℕ) (v : BurstView) (type : ℕ) (answer : Answer) → answer ≡ toldTake true (waits k v) → v .type ≡ type → Gives k type answer
-unfolding Gives toldTake
-gives k v type answer e f = rw e (refl, f)
+gives : (k : ℕ) (bits : List ℕ) (type : ℕ) (answer : Reply HandedSlot) → answer ≡ toldTake true (waits (slotIn k bits)) → typeOf bits ≡ type → Gives k type answer
+unfolding Gives toldTake slotIn slotWith typeOf
+gives k bits type answer e f = rw e (refl, f)
 
 locked-window : (t : Tracked) (n : ℕ) (s : Signal) → eqb n (t .account .due) ≡ true → t .account .locked ≡ true
-    → turn t n s .account .windows ≡ record { counter = n; kind = slot (t .account .number) (slotView (windowBits s)) } ∷ t .account .windows
+    → turn t n s .account .windows ≡ record { counter = n; kind = slot (slotIn (t .account .number) (windowBits s)) } ∷ t .account .windows
 unfolding slotTurn
 locked-window t n s e g = go (ltb (nextMisses (typeOf (windowBits s)) (t .account .misses)) 100) refl
   where
     go : (b : Bool) → ltb (nextMisses (typeOf (windowBits s)) (t .account .misses)) 100 ≡ b
-        → turn t n s .account .windows ≡ record { counter = n; kind = slot (t .account .number) (slotView (windowBits s)) } ∷ t .account .windows
+        → turn t n s .account .windows ≡ record { counter = n; kind = slot (slotIn (t .account .number) (windowBits s)) } ∷ t .account .windows
     go true i = rw (turn-slot t n s true e g i)
     go false i = rw (turn-slot t n s false e g i)
 
 windows-is : (x : ComplexSample) (older : List ComplexSample) → tracked older .account .locked ≡ true → tracked older .account .due ≡ length older
     → tracked (x ∷ older) .account .windows
-    ≡ record { counter = length older; kind = slot (tracked older .account .number) (slotView (windowBits (signalOf (x ∷ older)))) } ∷ tracked older .account .windows
+    ≡ record { counter = length older; kind = slot (slotIn (tracked older .account .number) (windowBits (signalOf (x ∷ older)))) } ∷ tracked older .account .windows
 unfolding tracked
 windows-is x older u d = locked-window (tracked older) (length older) (signalOf (x ∷ older)) (eq-eqb (length older) (tracked older .account .due) (sym d)) u
 
 waiting-is : (x : ComplexSample) (c : ℤ) (cs : List Call) → Agree cs → sampleRefusal (nextCounter cs) x c ≡ 0 → tracked (heard cs) .account .locked ≡ true
     → tracked (heard cs) .account .due ≡ length (heard cs)
-    → Claim.waiting (sample x c ∷ cs) ≡ waits (tracked (heard cs) .account .number) (slotView (windowBits (signalOf (x ∷ heard cs))))
+    → Claim.waiting (sample x c ∷ cs) ≡ waits (slotIn (tracked (heard cs) .account .number) (windowBits (signalOf (x ∷ heard cs))))
 unfolding Claim.waiting accountOf account lastHanded changed
 waiting-is x c cs g z u d =
-    let w : Window = record { counter = length (heard cs); kind = slot (tracked (heard cs) .account .number) (slotView (windowBits (signalOf (x ∷ heard cs)))) } in
+    let w : Window = record { counter = length (heard cs); kind = slot (slotIn (tracked (heard cs) .account .number) (windowBits (signalOf (x ∷ heard cs)))) } in
     rw (heard-is x c cs z, seen-sample x c cs, windows-is x (heard cs) u d, newer-cons (Claim.seen cs) w (tracked (heard cs) .account .windows) (g .seen))
-
-view-type : (bits : List ℕ) → slotView bits .type ≡ typeOf bits
-unfolding slotView burstView typeOf
-view-type bits = refl
 
 reported-sample : (x : ComplexSample) (c : ℤ) (cs : List Call) → Agree cs → Agree (sample x c ∷ cs) → Reported (sample x c ∷ cs)
 unfolding Reported accountOf account
 reported-sample x c cs g h z u d type burst s a b f =
     let bits : List ℕ = windowBits (signalOf (x ∷ heard cs)) in
     let k : ℕ = tracked (heard cs) .account .number in
-    let v : BurstView = slotView bits in
-    gives k v type (answerTo (after (sample x c ∷ cs)) (CallList.take s a b))
-    (take-leaves (after (sample x c ∷ cs)) s a b true (waits k v) f (rw (waiting-is x c cs g z u d) at (h .waiting)) .answer)
-    (view-type bits ∙ window-type (signalOf (x ∷ heard cs)) burst)
+    gives k bits type (outcome (after (sample x c ∷ cs)) (CallList.take s a b) .reply)
+    (take-leaves (after (sample x c ∷ cs)) s a b true (waits (slotIn k bits)) f (h .within) (rw (waiting-is x c cs g z u d) at (h .waiting)) .answer)
+    (window-type (signalOf (x ∷ heard cs)) burst)
 
 reported : (cs : List Call) → Counted cs → Reported cs
 unfolding Reported Counted
@@ -152,7 +163,8 @@ demand3 cs u =
       closes = g .windows;
       mode = mode-is (after cs .mode) (after cs .clock) (after cs .lock) (length (heard cs)) (tracked (heard cs)) (g .timed);
       answered = g .answered;
-      unchanged = λ c n e. (kept (after cs) c n e, lent-kept (after cs) c n e);
+      fills = fills cs (g .answered);
+      unchanged = kept (after cs);
       returns = r .1 .bounds .held;
       soon = r .1 .bounds .soon;
       four = r .1 .bounds .four;

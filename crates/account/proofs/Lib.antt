@@ -1,9 +1,12 @@
 pub mod Bursts
 pub mod Laws
 pub mod Times
+pub mod Views
 pub mod Simulation
+pub mod Numbers
 pub mod Bounds
 pub mod Agreement
 pub mod Counts
 pub mod Demand
+pub mod Rows
 pub mod Running

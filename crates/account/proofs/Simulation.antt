@@ -9,8 +9,7 @@ use native.Mathlib.Nat.{mod-eq-of-lt}
 use lib.IntN.{ℤ, pos, negsuc, _+ℤ_, _-ℤ_}
 use lib.Dec.{ltb, leb, eqb}
 use lib.Ieee.{Float, binary32, sub}
-use lib.ListN.{length}
-use borrow.Author.Tests.{le-leb, eqb-true, eqb-false, ne-eqb, lt-ltb, le-ltb, leb-true, leb-false}
+use borrow.Author.Tests.{eqb-true, eqb-false, ne-eqb, lt-ltb, le-ltb, leb-true, leb-false}
 use Rattle.dsp_types.specs.declared.ComplexSample.{ComplexSample}
 use Rattle.dsp_types.specs.Ints.{up, dn, sum, eqZ, above-zero}
 use Rattle.dsp_types.specs.Times.{slots, slotOf}
@@ -18,17 +17,15 @@ use Rattle.timing.specs.Floats.{oneF}
 use Rattle.timing.specs.Tracking.{late, early, loweredOf, settledOf}
 use Rattle.burst_finder.specs.declared.SlotType.the-variants as SlotType
 use Rattle.burst_finder.specs.Search.{findSync}
-use Rattle.burst_finder.specs.Slots.{notFound, getBurst}
-use Rattle.demodulator.specs.Signal.{Signal, hear, bitsOf}
+use Rattle.demodulator.specs.Signal.{Signal, hear, slotTiming, windowBits}
 use Rattle.demodulator.specs.Receiver as R
 use Rattle.demodulator.specs.declared.Mode.{Mode}
 use Rattle.demodulator.specs.declared.Mode.the-variants.{DlUnsynchronized, Dl}
-use Rattle.demodulator.specs.Receiver.{Clock, Lock, HandedSlot, Receiver, slotTiming, far, slotsToSkip, listen, closeWindow, processSample, setSlot, withClock, addSlots}
-use Rattle.demodulator.specs.Calls.{BurstView, burstView, padded, viewIn}
+use Rattle.demodulator.specs.Receiver.{Clock, Lock, HandedSlot, Receiver, withMode, withClock, withLock, withWaits, withSlot, withSignal, noView, checked, far, slotsToSkip, listen, closeWindow, processSample, setSlot, addSlots}
 use Rattle.demodulator.specs.Windows.{Kind, quiet, lock, slot, Window, kindOf, searchKind, windowOf, windowIf}
-use Rattle.account.specs.Rules.{typeOf, slotView, nextMisses, nextNumber, searchOn, locked, handed}
-use Rattle.account.specs.Tracked.{Tracked, windowBits, gapOf, slotGap, errorAfter, searchTurn, slotTurn, windowTurn, turnIf, turn}
-use Rattle.account.specs.Account.{Waiting, nothing, waits, changed, noView}
+use Rattle.account.specs.Rules.{typeOf, slotWith, slotIn, nextMisses, nextNumber}
+use Rattle.account.specs.Tracked.{Tracked, gapOf, slotGap, errorAfter, searchTurn, slotTurn, windowTurn, turnIf, turn}
+use Rattle.account.specs.Account.{Waiting, nothing, waits, changed}
 use Rattle.account.proofs.Laws.{not-late, not-early, Placed, placed}
 use Rattle.account.proofs.Times.{near, past, skips-one, closes-yes, closes-no, ready-parts, next-slot, first-slot, found-parts}
 
@@ -79,63 +76,76 @@ pub data Timed (m : Mode) (c : Clock) (l : Lock) (n : ℕ) (t : Tracked) : Type 
 
 -- ---- the handed slot is what waits
 
-abbrev pub Stands : HandedSlot → Waiting → Type 0
-Stands h nothing = h .available ≡ false
-Stands h (waits n v) = (h .available ≡ true) × (h .time ≡ n) × (burstView 510 (h .full) ≡ v)
+abbrev pub Stands : Bool → HandedSlot → Waiting → Type 0
+Stands b h nothing = b ≡ false
+Stands b h (waits w) = (b ≡ true) × (h ≡ w)
 
-pub record Waits (h : HandedSlot) (v : Waiting) : Type 0 where
-  pub stands : Stands h v
-  pub subslot1 : burstView 254 (h .subslot1) ≡ noView 254
-  pub subslot2 : burstView 254 (h .subslot2) ≡ noView 254
+-- in the downlink nothing is found in a slot's halves
+pub record Whole (h : HandedSlot) : Type 0 where
+  pub subslot1 : h .subslot1 ≡ noView
+  pub subslot2 : h .subslot2 ≡ noView
 
--- nothing found, in a slot's bytes and in half a slot's
-no-view : (bits : List ℕ) → burstView 510 (record { bits = bits; finding = notFound }) ≡ noView 510
-unfolding burstView viewIn padded noView notFound getBurst
-no-view bits = rw (le-leb 0 (length bits) (omega arith))
+pub record Waits (b : Bool) (h : HandedSlot) (v : Waiting) : Type 0 where
+  pub stands : Stands b h v
+  pub whole : Whole h
 
-pub no-half-view : (bits : List ℕ) → burstView 254 (record { bits = bits; finding = notFound }) ≡ noView 254
-unfolding burstView viewIn padded noView notFound getBurst
-no-half-view bits = rw (le-leb 0 (length bits) (omega arith))
+module _ (h : HandedSlot) (w : Whole h) where
+  emptied-is : (n : ℕ) → R.emptied h n ≡ slotWith n noView
+  unfolding R.emptied slotWith
+  emptied-is n = λ i. record { time = n; full = noView; subslot1 = w .subslot1 i; subslot2 = w .subslot2 i }
 
-module _ (h : HandedSlot) (s : Signal) where
-  emptied-quiet : (v : Waiting) → Waits h v → Waits (R.emptied h (h .time) s) (changed quiet v)
-  unfolding R.emptied R.searched changed
-  emptied-quiet nothing w = record { stands = w .stands; subslot1 = w .subslot1; subslot2 = w .subslot2 }
-  emptied-quiet (waits n v) w = record { stands = (w .stands .0, w .stands .1, no-view (bitsOf s 1024 256)); subslot1 = w .subslot1; subslot2 = w .subslot2 }
+  handed-is : (k n : ℕ) (bits : List ℕ) → k ≡ n → R.downlinkSlot h k (checked SlotType.Dl bits) ≡ slotIn n bits
+  unfolding R.downlinkSlot slotIn slotWith
+  handed-is k n bits e = λ i. record { time = e i; full = checked SlotType.Dl bits; subslot1 = w .subslot1 i; subslot2 = w .subslot2 i }
 
-  emptied-lock : (v : Waiting) → Waits h v → Waits (R.emptied h 0 s) (changed lock v)
-  unfolding R.emptied R.searched changed
-  emptied-lock nothing w = record { stands = w .stands; subslot1 = w .subslot1; subslot2 = w .subslot2 }
-  emptied-lock (waits n v) w = record { stands = (w .stands .0, refl, no-view (bitsOf s 1024 256)); subslot1 = w .subslot1; subslot2 = w .subslot2 }
+module _ (b : Bool) (h : HandedSlot) where
+  emptied-quiet : (v : Waiting) → Waits b h v → Waits b (R.emptied h (h .time)) (changed quiet v)
+  unfolding R.emptied changed
+  emptied-quiet nothing w = record { stands = w .stands; whole = record { subslot1 = w .whole .subslot1; subslot2 = w .whole .subslot2 } }
+  emptied-quiet (waits v) w =
+      record {
+        stands = (w .stands .0, emptied-is h (w .whole) (h .time) ∙ ap (λ (g : HandedSlot). slotWith (g .time) noView) (w .stands .1));
+        whole = record { subslot1 = w .whole .subslot1; subslot2 = w .whole .subslot2 };
+      }
 
-  handed-waits : (k j : ℕ) (v : Waiting) → k ≡ j → Waits h v → Waits (R.handed h k (R.checked SlotType.Dl s 1024 256)) (changed (slot j (slotView (windowBits s))) v)
-  unfolding R.handed R.checked changed slotView
-  handed-waits k j v e w = record { stands = (refl, e, refl); subslot1 = w .subslot1; subslot2 = w .subslot2 }
+  emptied-lock : (v : Waiting) → Waits b h v → Waits b (R.emptied h 0) (changed lock v)
+  unfolding R.emptied changed
+  emptied-lock nothing w = record { stands = w .stands; whole = record { subslot1 = w .whole .subslot1; subslot2 = w .whole .subslot2 } }
+  emptied-lock (waits v) w =
+      record {
+        stands = (w .stands .0, emptied-is h (w .whole) 0);
+        whole = record { subslot1 = w .whole .subslot1; subslot2 = w .whole .subslot2 };
+      }
+
+  handed-waits : (k n : ℕ) (bits : List ℕ) (v : Waiting) → k ≡ n → Waits b h v → Waits true (R.downlinkSlot h k (checked SlotType.Dl bits)) (changed (slot (slotIn n bits)) v)
+  unfolding R.downlinkSlot changed
+  handed-waits k n bits v e w =
+      record { stands = (refl, handed-is h (w .whole) k n bits e); whole = record { subslot1 = w .whole .subslot1; subslot2 = w .whole .subslot2 } }
 
 -- a sample with the counter n takes r to r′, closing the windows w
 pub record Stepped (r r′ : Receiver) (w : List Window) (n : ℕ) (s : Signal) (t t′ : Tracked) : Type 0 where
   pub timed : Timed (r′ .mode) (r′ .clock) (r′ .lock) (suc n) t′
   pub signal : r′ .signal ≡ s
   pub windows : w ++ t .account .windows ≡ t′ .account .windows
-  pub waiting : (v : Waiting) → Waits (r .slot) v → Waits (r′ .slot) (over w v)
+  pub waiting : (v : Waiting) → Waits (r .waits) (r .slot) v → Waits (r′ .waits) (r′ .slot) (over w v)
 
 -- ---- `processSample` in its three ways
 module _ (r : Receiver) (x : ComplexSample) (n : ℕ) where
   passes : far (pos n -ℤ pos 16 -ℤ r .clock .slotReadyTime) ≡ false → eqZ (pos n -ℤ pos 16) (r .clock .slotReadyTime) ≡ false
       → (processSample r x (pos n) ≡ listen r x) × (windowOf r x (pos n) ≡ [])
-  unfolding processSample windowOf windowIf R.arrived R.tdiff R.skipIf R.closes R.closeIf listen
+  unfolding processSample windowOf windowIf R.arrived R.tdiff R.skipIf R.closes R.closeIf listen withSignal
   passes e f = (rw (e, f), rw (e, f))
 
   shuts : far (pos n -ℤ pos 16 -ℤ r .clock .slotReadyTime) ≡ false → eqZ (pos n -ℤ pos 16) (r .clock .slotReadyTime) ≡ true
       → (processSample r x (pos n) ≡ closeWindow (listen r x))
       × (windowOf r x (pos n) ≡ record { counter = n; kind = kindOf (r .mode) (closeWindow (listen r x)) } ∷ [])
-  unfolding processSample windowOf windowIf R.arrived R.tdiff R.skipIf R.closes R.closeIf listen
+  unfolding processSample windowOf windowIf R.arrived R.tdiff R.skipIf R.closes R.closeIf listen withSignal
   shuts e f = (rw (e, f), rw (e, f))
 
   skips : far (pos n -ℤ pos 16 -ℤ r .clock .slotReadyTime) ≡ true → slotsToSkip (pos n -ℤ pos 16 -ℤ r .clock .slotReadyTime) ≡ pos 1
       → eqZ (pos n -ℤ pos 16) (addSlots (r .mode) (r .clock) (pos 1) .slotReadyTime) ≡ false
       → (processSample r x (pos n) ≡ withClock (listen r x) (addSlots (r .mode) (r .clock) (pos 1))) × (windowOf r x (pos n) ≡ [])
-  unfolding processSample windowOf windowIf R.arrived R.tdiff R.skipIf R.closes R.closeIf listen withClock
+  unfolding processSample windowOf windowIf R.arrived R.tdiff R.skipIf R.closes R.closeIf listen withSignal withClock
   skips e s f = (rw (e, s, f), rw (e, s, f))
 
 -- ---- a locked receiver's slot timing: the two tests move the reference time by at most one, and the next slot with it. No float is looked at
@@ -172,18 +182,13 @@ gap-span e = go (late e) (early (loweredOf e))
 -- a receiver after its slot's window: the next slot, with the reference time moved
 unfoldable pub advanced : Receiver → Receiver
 advanced r =
-    record {
-      mode = r .mode;
-      clock = setSlot (r .mode) (shifted (r .lock .timingError) (r .clock .referenceTime)) (slotOf (pos (r .clock .currentSlot) +ℤ pos 1));
-      lock = record { timingError = settledOf (r .lock .timingError); misses = r .lock .misses };
-      slot = r .slot;
-      next = r .next;
-      signal = r .signal;
-    }
+    withLock
+    (withClock r (setSlot (r .mode) (shifted (r .lock .timingError) (r .clock .referenceTime)) (slotOf (pos (r .clock .currentSlot) +ℤ pos 1))))
+    (record { timingError = settledOf (r .lock .timingError); misses = r .lock .misses })
 
 advance-by : (r : Receiver) (a b : Bool) → late (r .lock .timingError) ≡ a → early (cond a (sub binary32 (r .lock .timingError) oneF) (r .lock .timingError)) ≡ b
     → R.nextSlot (R.trackedSooner (R.trackedLater r)) ≡ advanced r
-unfolding R.nextSlot withClock addSlots R.trackedSooner R.trackedLater R.sooner R.later R.moved advanced shifted shift settledOf loweredOf setSlot
+unfolding R.nextSlot withClock withLock addSlots R.trackedSooner R.trackedLater R.sooner R.later R.moved advanced shifted shift settledOf loweredOf setSlot
 advance-by r true true p q = rw (p, q)
 advance-by r true false p q = rw (p, q)
 advance-by r false true p q = rw (p, q)
@@ -199,7 +204,7 @@ module _ (r : Receiver) where
   stayed = withClock (R.notFoundYet r) (R.searchOn (r .clock))
 
   close-stays : r .mode ≡ DlUnsynchronized → leb (findSync (windowBits (r .signal)) .dist) 1 ≡ false → closeWindow r ≡ stayed
-  unfolding closeWindow R.processed R.processPastSamples R.searchWindow R.notFoundYet R.schedule stayed
+  unfolding closeWindow R.processed R.processPastSamples R.searchWindow R.notFoundYet withSlot R.schedule stayed
   close-stays m e = rw (m, e)
 
   -- one that finds the sequence
@@ -207,25 +212,22 @@ module _ (r : Receiver) where
   found = withClock (R.found r (findSync (windowBits (r .signal)) .pos)) (setSlot Dl (R.found r (findSync (windowBits (r .signal)) .pos) .clock .referenceTime) 0)
 
   close-locks : r .mode ≡ DlUnsynchronized → leb (findSync (windowBits (r .signal)) .dist) 1 ≡ true → closeWindow r ≡ found
-  unfolding closeWindow R.processed R.processPastSamples R.searchWindow R.found R.schedule R.nextSlot R.trackedSooner R.trackedLater R.sooner R.later addSlots setSlot found
+  unfolding closeWindow R.processed R.processPastSamples R.searchWindow R.found withMode withClock withLock withSlot R.schedule R.nextSlot R.trackedSooner R.trackedLater R.sooner R.later addSlots setSlot found
   close-locks m e = rw (m, e, not-late (r .signal), not-early (r .signal), first-slot)
 
   -- a locked window: the slot is handed over
   abbrev type : ℕ
   type = typeOf (windowBits (r .signal))
 
+  -- what it makes of the lock
+  abbrev lockOn : ℕ → Lock
+  lockOn k = record { timingError = errorAfter k (r .lock .timingError) (slotTiming (r .signal)); misses = nextMisses k (r .lock .misses) }
+
   unfoldable handed-over : Mode → Receiver
   handed-over m =
-      record {
-        mode = m;
-        clock = r .clock;
-        lock = record { timingError = errorAfter type (r .lock .timingError) (slotTiming (r .signal)); misses = nextMisses type (r .lock .misses) };
-        slot = R.handed (r .slot) (r .clock .currentSlot) (R.checked SlotType.Dl (r .signal) 1024 256);
-        next = r .next;
-        signal = r .signal;
-      }
+      R.handOver (withMode (withLock r (lockOn type)) m) (R.downlinkSlot (r .slot) (r .clock .currentSlot) (checked SlotType.Dl (windowBits (r .signal))))
 
-  lock-is : (k : ℕ) → R.lockAfter (r .lock) (slotTiming (r .signal)) k ≡ record { timingError = errorAfter k (r .lock .timingError) (slotTiming (r .signal)); misses = nextMisses k (r .lock .misses) }
+  lock-is : (k : ℕ) → R.lockAfter (r .lock) (slotTiming (r .signal)) k ≡ lockOn k
   unfolding R.lockAfter errorAfter nextMisses
   lock-is zero = refl
   lock-is (suc k) = refl
@@ -235,12 +237,12 @@ module _ (r : Receiver) where
   hands-over m e f = rw (e, lock-is type, f)
 
   close-keeps : r .mode ≡ Dl → leb 100 (nextMisses type (r .lock .misses)) ≡ false → closeWindow r ≡ advanced (handed-over Dl)
-  unfolding closeWindow R.schedule R.modeAfter handed-over
+  unfolding closeWindow R.schedule R.modeAfter handed-over R.handOver withWaits withSlot withMode
   close-keeps m e = rw (hands-over Dl m (rw e)) (advances (handed-over Dl))
 
   close-loses : r .mode ≡ Dl → leb 100 (nextMisses type (r .lock .misses)) ≡ true
       → closeWindow r ≡ withClock (handed-over DlUnsynchronized) (R.searchOn (r .clock))
-  unfolding closeWindow R.schedule R.modeAfter handed-over
+  unfolding closeWindow R.schedule R.modeAfter handed-over R.handOver withWaits withSlot withMode withLock
   close-loses m e = rw (hands-over DlUnsynchronized m (rw e))
 
 -- ---- the account's ways
@@ -273,9 +275,9 @@ kind-lock : (m : Mode) (c r : Receiver) → m ≡ DlUnsynchronized → c ≡ r �
 unfolding kindOf searchKind
 kind-lock m c r p q e = rw (p, q, e)
 
-kind-slot : (m : Mode) (c r : Receiver) (k : ℕ) (v : BurstView) → m ≡ Dl → c ≡ r → r .slot .time ≡ k → burstView 510 (r .slot .full) ≡ v → kindOf m c ≡ slot k v
+kind-slot : (m : Mode) (c r : Receiver) (h : HandedSlot) → m ≡ Dl → c ≡ r → r .slot ≡ h → kindOf m c ≡ slot h
 unfolding kindOf
-kind-slot m c r k v p q e f = rw (p, q, e, f)
+kind-slot m c r h p q e = rw (p, q, e)
 
 one-window : {w : List Window} {n : ℕ} {j k : Kind} → w ≡ record { counter = n; kind = j } ∷ [] → j ≡ k → w ≡ record { counter = n; kind = k } ∷ []
 one-window e f = rw (← f) e
@@ -301,7 +303,7 @@ module _ (r : Receiver) (x : ComplexSample) (n : ℕ) (t : Tracked) where
 
   -- between two windows
   search-passes : Search (r .mode) (r .clock) n t → eqb n (t .account .due) ≡ false → Steps
-  unfolding listen over
+  unfolding listen withSignal over
   search-passes s e =
       let ne : n ≡ t .account .due → ⊥ = eqb-false n (t .account .due) e in
       let p = passes r x n (near n (r .clock .slotReadyTime) (omega (arith, s)) (omega (arith, s))) (closes-no n (r .clock .slotReadyTime) (λ h. ne (omega (arith, s)))) in
@@ -314,7 +316,7 @@ module _ (r : Receiver) (x : ComplexSample) (n : ℕ) (t : Tracked) where
       })
 
   steady-passes : Locked (r .mode) (r .lock) t → Steady (r .clock) n t → eqb n (t .account .due) ≡ false → Steps
-  unfolding listen over
+  unfolding listen withSignal over
   steady-passes l s e =
       let ne : n ≡ t .account .due → ⊥ = eqb-false n (t .account .due) e in
       let p = passes r x n (near n (r .clock .slotReadyTime) (omega (arith, s)) (omega (arith, s))) (closes-no n (r .clock .slotReadyTime) (λ h. ne (omega (arith, s)))) in
@@ -328,7 +330,7 @@ module _ (r : Receiver) (x : ComplexSample) (n : ℕ) (t : Tracked) where
 
   -- a search window that finds nothing
   search-stays : Search (r .mode) (r .clock) n t → eqb n (t .account .due) ≡ true → leb (findSync (windowBits s′) .dist) 1 ≡ false → Steps
-  unfolding listen stayed withClock R.notFoundYet R.searchOn over searchTurn
+  unfolding listen withSignal stayed withClock R.notFoundYet withSlot R.searchOn over searchTurn
   search-stays s e f =
       let eq : n ≡ t .account .due = eqb-true n (t .account .due) e in
       let z : ℤ = r .clock .slotReadyTime in
@@ -341,12 +343,12 @@ module _ (r : Receiver) (x : ComplexSample) (n : ℕ) (t : Tracked) where
         timed = searching (record { mode = s .mode; unlocked = refl; above-zero = a; due = omega (arith, sum z (pos 400), s, a); least = omega arith; most = omega arith; begun = omega (arith, s) });
         signal = refl;
         windows = refl;
-        waiting = λ v h. emptied-quiet (r .slot) s′ v h;
+        waiting = λ v h. emptied-quiet (r .waits) (r .slot) v h;
       })
 
   -- a search window that locks
   search-locks : Search (r .mode) (r .clock) n t → eqb n (t .account .due) ≡ true → leb (findSync (windowBits s′) .dist) 1 ≡ true → Steps
-  unfolding listen found withClock R.found setSlot R.slotReadyFromBegin over searchTurn
+  unfolding listen withSignal found withClock R.found withMode withLock withSlot setSlot R.slotReadyFromBegin over searchTurn
   search-locks s e f =
       let eq : n ≡ t .account .due = eqb-true n (t .account .due) e in
       let z : ℤ = r .clock .slotReadyTime in
@@ -371,12 +373,12 @@ module _ (r : Receiver) (x : ComplexSample) (n : ℕ) (t : Tracked) where
             });
         signal = refl;
         windows = refl;
-        waiting = λ v h. emptied-lock (r .slot) s′ v h;
+        waiting = λ v h. emptied-lock (r .waits) (r .slot) v h;
       })
 
   -- the first sample after a lock skips a slot
   fresh-skips : Locked (r .mode) (r .lock) t → Fresh (r .clock) n t → Steps
-  unfolding listen withClock over setSlot
+  unfolding listen withSignal withClock over setSlot
   fresh-skips l s =
       let z : ℤ = r .clock .slotReadyTime in
       let c : Clock = setSlot Dl (r .clock .referenceTime) 1 in
@@ -403,10 +405,10 @@ module _ (r : Receiver) (x : ComplexSample) (n : ℕ) (t : Tracked) where
       })
 
   -- a locked window, the lock kept
-  slot-kept : Locked (r .mode) (r .lock) t → Steady (r .clock) n t → n < 137438953472 → eqb n (t .account .due) ≡ true
+  slot-kept : Locked (r .mode) (r .lock) t → Steady (r .clock) n t → Whole (r .slot) → n < 137438953472 → eqb n (t .account .due) ≡ true
       → leb 100 (nextMisses (typeOf (windowBits s′)) (r .lock .misses)) ≡ false → Steps
-  unfolding listen advanced handed-over over slotTurn nextNumber setSlot R.slotReadyFromBegin R.handed R.checked slotView
-  slot-kept l s few e f =
+  unfolding listen withSignal advanced withClock withLock handed-over R.handOver withWaits withSlot withMode over slotTurn nextNumber setSlot R.slotReadyFromBegin
+  slot-kept l s u few e f =
       let eq : n ≡ t .account .due = eqb-true n (t .account .due) e in
       let z : ℤ = r .clock .slotReadyTime in
       let k : ℕ = t .account .number in
@@ -424,7 +426,7 @@ module _ (r : Receiver) (x : ComplexSample) (n : ℕ) (t : Tracked) where
       let b = shifted-parts error (r .clock .referenceTime) in
       let ready : ℤ = setSlot Dl (shifted error (r .clock .referenceTime)) (suc k) .slotReadyTime in
       let a : dn ready ≡ 0 = above-zero ready (omega (arith, y, b, s, g)) in
-      assemble (q .0 ∙ c) (one-window (q .1) (kind-slot (r .mode) (closeWindow (listen r x)) r′ k (slotView (windowBits s′)) (l .mode) c (s .current) refl))
+      assemble (q .0 ∙ c) (one-window (q .1) (kind-slot (r .mode) (closeWindow (listen r x)) r′ (slotIn k (windowBits s′)) (l .mode) c (handed-is (r .slot) u (r .clock .currentSlot) k (windowBits s′) (s .current))))
       (turn-slot t n s′ true e (l .locked) (lt-ltb (nextMisses type (t .account .misses)) 100 (omega (arith, leb-false 100 (nextMisses type (r .lock .misses)) f, me))))
       (record {
         timed = steady (record { mode = refl; locked = refl; lock = ap (λ (y : Lock). record { timingError = settledOf (errorAfter type (y .timingError) (slotTiming s′)); misses = nextMisses type (y .misses) }) (l .lock) })
@@ -440,14 +442,14 @@ module _ (r : Receiver) (x : ComplexSample) (n : ℕ) (t : Tracked) where
             }));
         signal = refl;
         windows = refl;
-        waiting = λ v h. handed-waits (r .slot) s′ (r .clock .currentSlot) k v (s .current) h;
+        waiting = λ v h. handed-waits (r .waits) (r .slot) (r .clock .currentSlot) k (windowBits s′) v (s .current) h;
       })
 
   -- the hundredth miss
-  slot-loses : Locked (r .mode) (r .lock) t → Steady (r .clock) n t → eqb n (t .account .due) ≡ true
+  slot-loses : Locked (r .mode) (r .lock) t → Steady (r .clock) n t → Whole (r .slot) → eqb n (t .account .due) ≡ true
       → leb 100 (nextMisses (typeOf (windowBits s′)) (r .lock .misses)) ≡ true → Steps
-  unfolding listen withClock handed-over R.searchOn over slotTurn R.handed R.checked slotView
-  slot-loses l s e f =
+  unfolding listen withSignal withClock withLock handed-over R.handOver withWaits withSlot withMode R.searchOn over slotTurn
+  slot-loses l s u e f =
       let eq : n ≡ t .account .due = eqb-true n (t .account .due) e in
       let z : ℤ = r .clock .slotReadyTime in
       let type : ℕ = typeOf (windowBits s′) in
@@ -456,27 +458,27 @@ module _ (r : Receiver) (x : ComplexSample) (n : ℕ) (t : Tracked) where
       let r′ : Receiver = withClock (handed-over (listen r x) DlUnsynchronized) (R.searchOn (r .clock)) in
       let me = ap (λ (y : Lock). nextMisses type (y .misses)) (l .lock) in
       let a : dn (z +ℤ pos 400) ≡ 0 = above-zero (z +ℤ pos 400) (omega (arith, sum z (pos 400), s)) in
-      assemble (q .0 ∙ c) (one-window (q .1) (kind-slot (r .mode) (closeWindow (listen r x)) r′ (t .account .number) (slotView (windowBits s′)) (l .mode) c (s .current) refl))
+      assemble (q .0 ∙ c) (one-window (q .1) (kind-slot (r .mode) (closeWindow (listen r x)) r′ (slotIn (t .account .number) (windowBits s′)) (l .mode) c (handed-is (r .slot) u (r .clock .currentSlot) (t .account .number) (windowBits s′) (s .current))))
       (turn-slot t n s′ false e (l .locked) (le-ltb (nextMisses type (t .account .misses)) 100 (omega (arith, leb-true 100 (nextMisses type (r .lock .misses)) f, me))))
       (record {
         timed = searching (record { mode = refl; unlocked = refl; above-zero = a; due = omega (arith, sum z (pos 400), s, a); least = omega arith; most = omega arith; begun = omega (arith, s) });
         signal = refl;
         windows = refl;
-        waiting = λ v h. handed-waits (r .slot) s′ (r .clock .currentSlot) (t .account .number) v (s .current) h;
+        waiting = λ v h. handed-waits (r .waits) (r .slot) (r .clock .currentSlot) (t .account .number) (windowBits s′) v (s .current) h;
       })
 
   -- all together
-  pub stepped : Timed (r .mode) (r .clock) (r .lock) n t → n < 137438953472 → Steps
-  stepped (searching s) few = go (eqb n (t .account .due)) refl (leb (findSync (windowBits s′) .dist) 1) refl
+  pub stepped : Timed (r .mode) (r .clock) (r .lock) n t → Whole (r .slot) → n < 137438953472 → Steps
+  stepped (searching s) u few = go (eqb n (t .account .due)) refl (leb (findSync (windowBits s′) .dist) 1) refl
     where
       go : (b : Bool) → eqb n (t .account .due) ≡ b → (d : Bool) → leb (findSync (windowBits s′) .dist) 1 ≡ d → Steps
       go false e d f = search-passes s e
       go true e false f = search-stays s e f
       go true e true f = search-locks s e f
-  stepped (fresh l s) few = fresh-skips l s
-  stepped (steady l s) few = go (eqb n (t .account .due)) refl (leb 100 (nextMisses (typeOf (windowBits s′)) (r .lock .misses))) refl
+  stepped (fresh l s) u few = fresh-skips l s
+  stepped (steady l s) u few = go (eqb n (t .account .due)) refl (leb 100 (nextMisses (typeOf (windowBits s′)) (r .lock .misses))) refl
     where
       go : (b : Bool) → eqb n (t .account .due) ≡ b → (d : Bool) → leb 100 (nextMisses (typeOf (windowBits s′)) (r .lock .misses)) ≡ d → Steps
       go false e d f = steady-passes l s e
-      go true e false f = slot-kept l s few e f
-      go true e true f = slot-loses l s e f
+      go true e false f = slot-kept l s u few e f
+      go true e true f = slot-loses l s u e f

@@ -8,8 +8,7 @@ use lib.IntN.{ℤ, pos, negsuc, negℤ, _+ℤ_, _-ℤ_, _*ℤ_}
 use lib.Signed.{quotZ}
 use Rattle.dsp_types.specs.Ints.{up, dn, sum, less, same, ltZ-yes, ltZ-no, eqZ, eqZ-yes, eqZ-no, up-neg, dn-neg}
 use Rattle.dsp_types.specs.Times.{slots, slotOf, divEuclid, divisor}
-use Rattle.demodulator.specs.Receiver.{far, slotsToSkip}
-use Rattle.demodulator.specs.Calls.{missing}
+use Rattle.demodulator.specs.Receiver.{far, slotsToSkip, foundTime, missing}
 
 -- the counter less the filter's delay, less the ready time z
 tdiff-parts : (n : ℕ) (z : ℤ) → up (pos n -ℤ pos 16 -ℤ z) + 16 + up z ≡ dn (pos n -ℤ pos 16 -ℤ z) + n + dn z
@@ -77,6 +76,6 @@ found-half z half k =
     halved = omega arith
 
 pub found-parts : (z : ℤ) (place half : ℕ) → place ≡ 2 * half → half ≤ 128
-    → up (z -ℤ pos 1018 +ℤ quotZ (pos (place + 2) -ℤ pos 510) (pos 2) *ℤ pos 4) + 2034 + dn z
-    ≡ dn (z -ℤ pos 1018 +ℤ quotZ (pos (place + 2) -ℤ pos 510) (pos 2) *ℤ pos 4) + up z + 4 * half
+    → up (foundTime z place) + 2034 + dn z ≡ dn (foundTime z place) + up z + 4 * half
+unfolding foundTime
 found-parts z place half e k = rw e (found-half z half k)

@@ -5,7 +5,7 @@ use mathlib.Core.Path.{_≡_}
 use mathlib.Core.Bool.{Bool, true, false, cond, not, _||_}
 use mathlib.Core.List.{List, [], _∷_}
 use Prim.Native.Nat.{ℕ, zero, suc, _+_, _-_, _≤_}
-use lib.ListN.{length, take, replicate}
+use lib.ListN.{length, take}
 use lib.IntN.{ℤ, pos, _+ℤ_}
 use lib.Dec.{ltb, leb}
 use Rattle.dsp_types.specs.declared.ComplexSample.{ComplexSample}
@@ -14,12 +14,14 @@ use Rattle.burst_finder.specs.Search.{hammingDistance}
 use Rattle.slotter.specs.Bursts.{syncBurst, normalBurst}
 use Rattle.demodulator.specs.declared.Mode.{Mode}
 use Rattle.demodulator.specs.declared.Mode.the-variants.{DlUnsynchronized, Dl}
-use Rattle.demodulator.specs.Calls.{BurstView, sampleRefusal, unless}
+use Rattle.demodulator.specs.Signal.{windowBits}
+use Rattle.demodulator.specs.Receiver.{HandedSlot, noView}
 use Rattle.demodulator.specs.Windows.{Kind, quiet, lock, slot, Window}
+use Rattle.demodulator.specs.Calls.{Reply, refused, done, took, sampleRefusal, filled}
 use Rattle.account.specs.CallList as CallList
-use Rattle.account.specs.CallList.{Call, sample, follow, Answer, refused, done, took, answered, answerTo, leaves, lent, lentAfter, after, answers, closed}
-use Rattle.account.specs.Rules.{Account, start, nextMisses, Turn}
-use Rattle.account.specs.Tracked.{signalOf, windowBits, account}
+use Rattle.account.specs.CallList.{Call, sample, follow, lent, outcome, after, answers, closed, lentAfter}
+use Rattle.account.specs.Rules.{Account, start, slotWith, nextMisses, Turn}
+use Rattle.account.specs.Tracked.{signalOf, account}
 
 -- at every sample the account takes a turn that the rules allow
 unfoldable pub Told : List ComplexSample → Type 0
@@ -32,7 +34,7 @@ Told (x ∷ older) = Told older × Turn (account older) (length older) (windowBi
 unfoldable pub runOn : Kind → ℕ → ℕ
 runOn quiet k = 0
 runOn lock k = 0
-runOn (slot n v) k = nextMisses (v .type) k
+runOn (slot h) k = nextMisses (h .full .type) k
 
 -- .. up to the last window: a lock counts anew
 unfoldable pub run : List Window → ℕ
@@ -48,7 +50,7 @@ typedOr (suc t) now before = now
 unfoldable pub trainedOn : Kind → ℕ → ℕ → ℕ
 trainedOn quiet now before = before
 trainedOn lock now before = now
-trainedOn (slot n v) now before = typedOr (v .type) now before
+trainedOn (slot h) now before = typedOr (h .full .type) now before
 
 -- the counter of the last window with a training sequence
 unfoldable pub trained : List Window → ℕ
@@ -59,7 +61,7 @@ trained (w ∷ ws) = trainedOn (w .kind) (w .counter) (trained ws)
 unfoldable pub heldOn : Kind → ℕ → Bool
 heldOn quiet k = false
 heldOn lock k = true
-heldOn (slot n v) k = ltb k 100
+heldOn (slot h) k = ltb k 100
 
 -- whether these windows do: from a lock on, and not past the hundredth slot in a row without a training sequence
 unfoldable pub held : List Window → Bool
@@ -84,7 +86,7 @@ closedIn k (w ∷ ws) = inside k (w .counter) + closedIn k ws
 unfoldable pub ifSlot : Kind → ℕ → ℕ
 ifSlot quiet n = 0
 ifSlot lock n = 0
-ifSlot (slot s v) n = n
+ifSlot (slot h) n = n
 
 -- how many slots are handed over at these counters
 unfoldable pub handedIn : ℕ → List Window → ℕ
@@ -93,17 +95,22 @@ handedIn k (w ∷ ws) = ifSlot (w .kind) (inside k (w .counter)) + handedIn k ws
 
 -- ════ the calls as the account tells them
 
+-- one value where a refusal's number is 0, for none, else the other
+unfoldable pub ifAccepted : {A : Type 0} → ℕ → A → A → A
+ifAccepted zero now before = now
+ifAccepted (suc n) now before = before
+
 -- the counter after the last accepted sample, 0 at the start
 unfoldable pub nextCounter : List Call → ℤ
 nextCounter [] = pos 0
-nextCounter (sample x c ∷ cs) = unless (sampleRefusal (nextCounter cs) x c) (c +ℤ pos 1) (nextCounter cs)
+nextCounter (sample x c ∷ cs) = ifAccepted (sampleRefusal (nextCounter cs) x c) (c +ℤ pos 1) (nextCounter cs)
 nextCounter (CallList.take s a b ∷ cs) = nextCounter cs
 nextCounter (follow other ∷ cs) = nextCounter cs
 
 -- 01's "accepted" samples: "exactly if none of refusals 1, 2 and 10 holds"
 unfoldable pub heard : List Call → List ComplexSample
 heard [] = []
-heard (sample x c ∷ cs) = unless (sampleRefusal (nextCounter cs) x c) (x ∷ heard cs) (heard cs)
+heard (sample x c ∷ cs) = ifAccepted (sampleRefusal (nextCounter cs) x c) (x ∷ heard cs) (heard cs)
 heard (CallList.take s a b ∷ cs) = heard cs
 heard (follow other ∷ cs) = heard cs
 
@@ -118,22 +125,19 @@ Counted (follow other ∷ cs) = Counted cs
 unfoldable pub accountOf : List Call → Account
 accountOf cs = account (heard cs)
 
--- what waits to be taken: a slot's number and view
+-- the slot that waits to be taken, if one does
 pub data Waiting : Type 0 where
   nothing : Waiting
-  waits : ℕ → BurstView → Waiting
+  waits : HandedSlot → Waiting
 
--- nothing found, in n lent bytes: type 0, 100 errors, no bits
-unfoldable pub noView : ℕ → BurstView
-noView n = record { type = 0; errors = 100; bits = []; bytes = replicate n 0 }
-
--- a search window empties the waiting slot's finding, and a find makes its number 0
+-- "A search window empties the full slot's finding, also while an earlier slot waits untaken; that slot is then taken with type 0, and
+-- keeps its number unless such a window finds, which makes it 0."
 unfoldable pub changed : Kind → Waiting → Waiting
 changed quiet nothing = nothing
-changed quiet (waits n v) = waits n (noView 510)
+changed quiet (waits h) = waits (slotWith (h .time) noView)
 changed lock nothing = nothing
-changed lock (waits n v) = waits 0 (noView 510)
-changed (slot n v) w = waits n v
+changed lock (waits h) = waits (slotWith 0 noView)
+changed (slot h) w = waits h
 
 -- the last handed slot, changed by the search windows closed after it
 unfoldable pub lastHanded : List Window → Waiting
@@ -152,7 +156,7 @@ sized s a b = not (wrongLength 510 s || (wrongLength 254 a || wrongLength 254 b)
 unfoldable pub seenIf : Bool → Waiting → (now before : ℕ) → ℕ
 seenIf false w now before = before
 seenIf true nothing now before = before
-seenIf true (waits n v) now before = now
+seenIf true (waits h) now before = now
 
 -- how many windows were closed at the last answered take, 0 at the start
 unfoldable pub seen : List Call → ℕ
@@ -165,22 +169,37 @@ seen (follow other ∷ cs) = seen cs
 unfoldable pub waiting : List Call → Waiting
 waiting cs = lastHanded (newer (seen cs) (accountOf cs .windows))
 
--- what a take is to be answered: refusal 3, refusal 11, or the slot; the half slots' views are empty
-unfoldable pub toldTake : Bool → Waiting → Answer
+-- what a sample is to be answered, by its refusal's number: 0 for none
+unfoldable pub answered : ℕ → Reply HandedSlot
+answered n = ifAccepted n done (refused n)
+
+-- what a take is to be answered: refusal 3, refusal 11, or the slot
+unfoldable pub toldTake : Bool → Waiting → Reply HandedSlot
 toldTake false w = refused badLength
 toldTake true nothing = refused noSlot
-toldTake true (waits n v) = took n v (noView 254) (noView 254)
+toldTake true (waits h) = took h
 
 -- what a call is to be answered after the calls cs
-unfoldable pub expected : Call → List Call → Answer
+unfoldable pub expected : Call → List Call → Reply HandedSlot
 expected (sample x c) cs = answered (sampleRefusal (nextCounter cs) x c)
 expected (CallList.take s a b) cs = toldTake (sized s a b) (waiting cs)
 expected (follow other) cs = refused notFollowing
 
 -- .. and each of a list of calls
-unfoldable pub expectedAll : List Call → List Answer
+unfoldable pub expectedAll : List Call → List (Reply HandedSlot)
 expectedAll [] = []
 expectedAll (c ∷ cs) = expected c cs ∷ expectedAll cs
+
+-- lent slices after an answer: "Taking a slot fills 510, 254 and 254 lent bytes with the three views"; a refusal "changes nothing"
+unfoldable pub filledBy : Reply HandedSlot → List (List ℕ) → List (List ℕ)
+filledBy (refused n) before = before
+filledBy done before = before
+filledBy (took h) before = filled h
+
+-- what the slices that each of a list of calls lends are to hold after it
+unfoldable pub expectedLent : List Call → List (List (List ℕ))
+expectedLent [] = []
+expectedLent (c ∷ cs) = filledBy (expected c cs) (lent c) ∷ expectedLent cs
 
 -- ════ bursts
 
@@ -196,10 +215,10 @@ pub record Burst (type : ℕ) (bits : List ℕ) : Type 0 where
   pub flipped : hammingDistance bits sent ≤ 1
 
 -- the answer is a taken slot with this number and this type
-unfoldable pub Gives : (number type : ℕ) → Answer → Type 0
+unfoldable pub Gives : (number type : ℕ) → Reply HandedSlot → Type 0
 Gives number type (refused n) = ⊥
 Gives number type done = ⊥
-Gives number type (took n s a b) = (n ≡ number) × (s .type ≡ type)
+Gives number type (took h) = (h .time ≡ number) × (h .full .type ≡ type)
 
 -- 01's "reported": "if a take as the very next call gives it". Where the last call closed a locked window with a burst's bits, it does
 unfoldable pub Reported : List Call → Type 0
@@ -207,7 +226,7 @@ Reported [] = Unit {0}
 Reported (sample x c ∷ cs) =
     sampleRefusal (nextCounter cs) x c ≡ accepted → accountOf cs .locked ≡ true → accountOf cs .due ≡ length (heard cs)
     → (type : ℕ) → Burst type (windowBits (signalOf (x ∷ heard cs))) → (s a b : List ℕ) → sized s a b ≡ true
-    → Gives (accountOf cs .number) type (answerTo (after (sample x c ∷ cs)) (CallList.take s a b))
+    → Gives (accountOf cs .number) type (outcome (after (sample x c ∷ cs)) (CallList.take s a b) .reply)
 Reported (CallList.take s a b ∷ cs) = Unit {0}
 Reported (follow other ∷ cs) = Unit {0}
 
@@ -225,10 +244,11 @@ pub record Demand3 (cs : List Call) : Type 0 where
   -- "The receiver closes these windows and no others, and after the list it searches or is locked as the account is."
   pub closes : closed cs ≡ accountOf cs .windows
   pub mode : after cs .mode ≡ modeOf (accountOf cs .locked)
-  -- "its takes answer as 01's account of it tells", and so do the other calls
+  -- "its takes answer as 01's account of it tells", and so do the other calls; the lent slices after them
   pub answered : answers cs ≡ expectedAll cs
+  pub fills : lentAfter cs ≡ expectedLent cs
   -- a refused call would change neither the receiver nor a lent slice
-  pub unchanged : (c : Call) (n : ℕ) → answerTo (after cs) c ≡ refused n → (leaves (after cs) c ≡ after cs) × (lentAfter (after cs) c ≡ lent c)
+  pub unchanged : (c : Call) (n : ℕ) → outcome (after cs) c .reply ≡ refused n → (outcome (after cs) c .receiver ≡ after cs) × (outcome (after cs) c .lent ≡ lent c)
   -- "Search returns exactly with the hundredth handed slot in a row, counted from the lock, without a training sequence, .."
   pub returns : accountOf cs .locked ≡ held (accountOf cs .windows)
   -- ".. at most 102,100 samples after the last window with one."

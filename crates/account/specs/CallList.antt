@@ -1,13 +1,13 @@
--- A list of calls on a receiver: what each call answers and leaves, by the definitions that the public contracts cite. Definitions only.
+-- A list of calls on a receiver: what each comes to, by the definitions that the public contracts cite. Definitions only.
 -- Calls stand THE LAST FIRST.
-use Prim.Native.Nat.{ℕ, zero, suc}
+use Prim.Native.Nat.{ℕ}
 use mathlib.Core.List.{List, [], _∷_, _++_}
 use lib.IntN.{ℤ}
 use Rattle.dsp_types.specs.declared.ComplexSample.{ComplexSample}
 use Rattle.demodulator.specs.declared.Mode.the-variants.{DlUnsynchronized}
 use Rattle.demodulator.specs.Receiver.{HandedSlot, Receiver, new}
-use Rattle.demodulator.specs.Calls.{BurstView, validCount, sampleRefusal, sampleOf, takeRefusal, burstView, taken, followRefusal, followOf, unless}
-use Rattle.demodulator.specs.Windows.{Window, sampleWindows}
+use Rattle.demodulator.specs.Windows.{Window}
+use Rattle.demodulator.specs.Calls.{Reply, Outcome, sampleOutcome, takeOutcome, followOutcome}
 
 -- a sample with its counter, a take with three lent slices, an order to follow another receiver
 pub data Call : Type 0 where
@@ -15,69 +15,36 @@ pub data Call : Type 0 where
   take : (slot subslot1 subslot2 : List ℕ) → Call
   follow : Receiver → Call
 
--- an answer: a refusal's number, nothing more than that it was done, or a taken slot's number with the views of the full slot and its halves
-pub data Answer : Type 0 where
-  refused : ℕ → Answer
-  done : Answer
-  took : ℕ → (slot subslot1 subslot2 : BurstView) → Answer
-
--- the answer with a refusal's number, 0 for none
-unfoldable pub answered : ℕ → Answer
-answered zero = done
-answered (suc n) = refused (suc n)
-
--- likewise a take's, from the slot that was handed over last
-unfoldable pub answeredTake : ℕ → HandedSlot → Answer
-answeredTake zero h = took (h .time) (burstView 510 (h .full)) (burstView 254 (h .subslot1)) (burstView 254 (h .subslot2))
-answeredTake (suc n) h = refused (suc n)
-
--- what a receiver answers to a call
-unfoldable pub answerTo : Receiver → Call → Answer
-answerTo r (sample x c) = answered (sampleRefusal (validCount (r .next)) x c)
-answerTo r (take s a b) = answeredTake (takeRefusal s a b (r .slot .available)) (r .slot)
-answerTo r (follow other) = answered (followRefusal (r .mode))
-
--- the receiver after a call
-unfoldable pub leaves : Receiver → Call → Receiver
-leaves r (sample x c) = sampleOf r x c
-leaves r (take s a b) = unless (takeRefusal s a b (r .slot .available)) (taken r) r
-leaves r (follow other) = followOf r other
-
 -- the slices that a call lends
 unfoldable pub lent : Call → List (List ℕ)
 lent (sample x c) = []
 lent (take s a b) = s ∷ a ∷ b ∷ []
 lent (follow other) = []
 
--- lent slices after an answer: an answered take fills them
-unfoldable pub filled : Answer → List (List ℕ) → List (List ℕ)
-filled (refused n) before = before
-filled done before = before
-filled (took n s a b) before = s .bytes ∷ a .bytes ∷ b .bytes ∷ []
-
--- the lent slices after a call
-unfoldable pub lentAfter : Receiver → Call → List (List ℕ)
-lentAfter r c = filled (answerTo r c) (lent c)
-
--- the windows that a call closes
-unfoldable pub closes : Receiver → Call → List Window
-closes r (sample x c) = sampleWindows r x c
-closes r (take s a b) = []
-closes r (follow other) = []
+-- what a call on a receiver comes to: its answer, the receiver after it, the windows that it closes and the lent slices after it
+unfoldable pub outcome : Receiver → Call → Outcome
+outcome r (sample x c) = sampleOutcome r x c
+outcome r (take s a b) = takeOutcome r s a b
+outcome r (follow other) = followOutcome r other
 
 -- ---- a list of calls from a new searching downlink receiver on
 
 -- the receiver after them
 unfoldable pub after : List Call → Receiver
 after [] = new DlUnsynchronized
-after (c ∷ cs) = leaves (after cs) c
+after (c ∷ cs) = outcome (after cs) c .receiver
 
 -- their answers
-unfoldable pub answers : List Call → List Answer
+unfoldable pub answers : List Call → List (Reply HandedSlot)
 answers [] = []
-answers (c ∷ cs) = answerTo (after cs) c ∷ answers cs
+answers (c ∷ cs) = outcome (after cs) c .reply ∷ answers cs
 
 -- the windows that they closed, the last first
 unfoldable pub closed : List Call → List Window
 closed [] = []
-closed (c ∷ cs) = closes (after cs) c ++ closed cs
+closed (c ∷ cs) = outcome (after cs) c .windows ++ closed cs
+
+-- the slices that they lent, after each
+unfoldable pub lentAfter : List Call → List (List (List ℕ))
+lentAfter [] = []
+lentAfter (c ∷ cs) = outcome (after cs) c .lent ∷ lentAfter cs

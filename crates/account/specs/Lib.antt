@@ -1,6 +1,7 @@
 pub mod CallList
-pub mod Runs
 pub mod Reachable
+pub mod Numbers
 pub mod Rules
 pub mod Tracked
 pub mod Account
+pub mod Runs

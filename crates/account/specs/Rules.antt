@@ -6,8 +6,7 @@ use Prim.Native.Nat.{ℕ, zero, suc, _+_, _%_, _≤_, _<_}
 use Rattle.dsp_types.specs.Times.{slots}
 use Rattle.burst_finder.specs.declared.SlotType.the-variants as SlotType
 use Rattle.burst_finder.specs.Search.{Holds}
-use Rattle.burst_finder.specs.Slots.{typeNumber, checkSlot}
-use Rattle.demodulator.specs.Calls.{BurstView, burstView}
+use Rattle.demodulator.specs.Receiver.{BurstView, HandedSlot, noView, checked}
 use Rattle.demodulator.specs.Windows.{quiet, lock, slot, Window}
 
 -- 01's "account": when the next closing is due, whether it is locked or in search, the next number, misses, and the windows closed so far
@@ -24,11 +23,15 @@ start = record { due = 1034; locked = false; number = 0; misses = 0; windows = [
 
 -- "the downlink order above gives the window's type"
 unfoldable pub typeOf : List ℕ → ℕ
-typeOf bits = typeNumber (checkSlot SlotType.Dl bits .«train_type»)
+typeOf bits = checked SlotType.Dl bits .type
 
--- the burst view of a locked window's bits, with that type
-unfoldable pub slotView : List ℕ → BurstView
-slotView bits = burstView 510 (record { bits = bits; finding = checkSlot SlotType.Dl bits })
+-- a downlink slot with this number and this view: nothing is found in its halves
+unfoldable pub slotWith : (number : ℕ) → BurstView → HandedSlot
+slotWith n v = record { time = n; full = v; subslot1 = noView; subslot2 = noView }
+
+-- the slot of a locked window's bits: with the burst view of that type
+unfoldable pub slotIn : (number : ℕ) (bits : List ℕ) → HandedSlot
+slotIn n bits = slotWith n (checked SlotType.Dl bits)
 
 -- "Type 0 is a miss; another type sets misses to 0."
 unfoldable pub nextMisses : (type misses : ℕ) → ℕ
@@ -57,7 +60,7 @@ handed a n bits kept gap =
       locked = kept;
       number = nextNumber (a .number);
       misses = nextMisses (typeOf bits) (a .misses);
-      windows = record { counter = n; kind = slot (a .number) (slotView bits) } ∷ a .windows;
+      windows = record { counter = n; kind = slot (slotIn (a .number) bits) } ∷ a .windows;
     }
 
 -- from the account before the sample with the counter n, whose window, if one closes, has these bits, to the account after it

@@ -10,18 +10,14 @@ use Rattle.dsp_types.specs.declared.ComplexSample.{ComplexSample}
 use Rattle.dsp_types.specs.Samples.{zeroF}
 use Rattle.timing.specs.Tracking.{averagedOf, late, early, loweredOf, settledOf}
 use Rattle.burst_finder.specs.Search.{findSync}
-use Rattle.demodulator.specs.Signal.{Signal, quiet, hear, bitsOf}
-use Rattle.demodulator.specs.Receiver.{slotTiming}
+use Rattle.demodulator.specs.Signal.{Signal, quiet, hear, slotTiming, windowBits}
 use Rattle.account.specs.Rules.{Account, start, typeOf, nextMisses, searchOn, locked, handed}
 
--- the samples so far, as the receiver keeps them
+-- the samples so far, as the receiver keeps them. The bits of a window are `windowBits` of it: "what the sections above make of the
+-- samples up to and with that one"
 unfoldable pub signalOf : List ComplexSample → Signal
 signalOf [] = quiet
 signalOf (x ∷ older) = hear (signalOf older) x
-
--- 01's "bits" of a window: "what the sections above make of the samples up to and with that one"
-abbrev pub windowBits : Signal → List ℕ
-windowBits s = bitsOf s 1024 256
 
 -- the account, and beside it the averaged timing error of the source
 pub record Tracked : Type 0 where
