@@ -61,11 +61,17 @@ mod library {
         pub burst_len: usize,
     }
 
+    #[derive(Clone, Copy)]
+    #[repr(C)]
+    pub struct Handed {
+        pub time: u32,
+        pub bursts: [Burst; 3],
+    }
+
     #[repr(C)]
     pub struct Taken {
         pub refusal: u32,
-        pub number: u32,
-        pub bursts: [Burst; 3],
+        pub slot: Handed,
         pub state: State,
     }
 
@@ -179,8 +185,8 @@ fn take(state: &mut State, slots: &mut Vec<Slot>) {
     let lent = (slot.as_mut_ptr(), half1.as_mut_ptr(), half2.as_mut_ptr());
     // Each pointer goes with its array's length, here and below.
     let taken = unsafe { library::tetra_state_take(*state, lent.0, 510, lent.1, 254, lent.2, 254) };
-    let burst = taken.bursts[0];
-    slots.push(Slot(taken.number, burst.train_type, slot[..burst.burst_len].to_vec()));
+    let burst = taken.slot.bursts[0];
+    slots.push(Slot(taken.slot.time, burst.train_type, slot[..burst.burst_len].to_vec()));
     *state = taken.state;
 }
 
