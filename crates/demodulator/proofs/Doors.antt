@@ -1,7 +1,7 @@
 -- A receiver as it is read at the door: its numbers are valid ones. Assumes nothing.
 use mathlib.Core.Path.{_≡_, refl}
 use mathlib.Core.Bool.{Bool, true, false, cond, _||_}
-use Prim.Native.Nat.{ℕ, zero, suc, _+_, _-_, _%_, _≤_, _<_, _^_, min}
+use Prim.Native.Nat.{ℕ, zero, suc, _+_, _%_, _≤_, _^_, min}
 use native.Mathlib.Nat.{mod-lt, min-le-left, min-le-right}
 use native.Mathlib.Omega.{arith}
 use lib.Dec.{leb, lit<}
@@ -14,7 +14,7 @@ use Rattle.dsp_types.specs.Ints.{up, dn, less}
 use Rattle.dsp_types.specs.Times.{slots}
 use Rattle.dsp_types.specs.Samples.{silence}
 use Rattle.demodulator.specs.Receiver.{Receiver, withClock, withLock, withNext, processSample, missing, feedZeros}
-use Rattle.demodulator.specs.Valid.{farReference, farReady, lastNext, validTime, validCount, validClock, validLock, valid}
+use Rattle.demodulator.specs.Valid.{farReference, farReady, validTime, validCount, validClock, validLock, valid}
 use Rattle.demodulator.specs.Calls.{sampleRefusal}
 use Rattle.demodulator.specs.Bounds.{Within, Timed, Counter}
 use Rattle.demodulator.proofs.Samples.{counter-before}

@@ -2,7 +2,7 @@
 use mathlib.Core.Path.{_≡_, refl, sym, ap, _∙_}
 use mathlib.Core.Bool.{Bool, true, false, _||_, _&&_, not}
 use mathlib.Core.List.{List, [], _∷_, _++_}
-use Prim.Native.Nat.{ℕ, suc, _+_, _≤_, _<_, _^_, _%_, min}
+use Prim.Native.Nat.{ℕ, suc, _+_, _-_, _≤_, _<_, _^_, _%_, min}
 use native.Mathlib.Nat.{min-eq-right, mod-eq-of-lt}
 use native.Mathlib.Omega.{arith}
 use lib.ListN.{length}
@@ -11,7 +11,7 @@ use lib.Signed.{ltZ, mag}
 use Rattle.dsp_types.specs.declared.ComplexSample.{ComplexSample}
 use Rattle.dsp_types.specs.Ints.{up, dn, sum, less, same, parts, ltZ-no, ltZ-false, eqZ, eqZ-no}
 use Rattle.dsp_types.specs.Times.{slots}
-use Rattle.dsp_types.specs.Refusals.{beyond, outOfCount}
+use Rattle.dsp_types.specs.Refusals.{beyond, lastCounter, outOfCount}
 use Rattle.fir.specs.Fir.{lineAfter, outsOf}
 use Rattle.history.specs.History.{heldAfter}
 use Rattle.demodulator.specs.Signal.{Signal, filtered, hear}
@@ -164,9 +164,13 @@ between l x h e = go (ltZ x l) refl (ltZ h x) refl e
     go false f true g e = absurd (let z : _≡_ {A = ℕ} 0 1 = cc in omega arith)
     go false f false g e = record { least = ltZ-false x l f; most = ltZ-false h x g }
 
+-- the last counter from which a block is kept at once, so that the block ends before the last counter
+abbrev pub lastQuiet : ℕ
+lastQuiet = lastCounter - 2040
+
 pub quiet-from : (reference ready next c left : ℤ) (slot misses : ℕ)
     → validTime 549755813888 reference ≡ reference → validTime 1099511627775 ready ≡ ready → next ≡ c → slot < slots → misses ≤ 100
-    → Between (pos 0) c (pos 137438950000) → Between (pos 1) left (pos 2040) → left ≡ ready +ℤ pos 16 -ℤ c
+    → Between (pos 0) c (pos lastQuiet) → Between (pos 1) left (pos 2040) → left ≡ ready +ℤ pos 16 -ℤ c
     → Quiet (record { referenceTime = reference; slotReadyTime = ready; currentSlot = slot }) misses next c (mag left)
 unfolding validClock
 quiet-from reference ready next c left slot misses a b f s m i j e = go left j (parts left (ready +ℤ pos 16 -ℤ c) e)
@@ -174,7 +178,7 @@ quiet-from reference ready next c left slot misses a b f s m i j e = go left j (
     low : dn c ≤ 0
     low = go c i
       where
-        go : (z : ℤ) → Between (pos 0) z (pos 137438950000) → dn z ≤ 0
+        go : (z : ℤ) → Between (pos 0) z (pos lastQuiet) → dn z ≤ 0
         go (pos n) h = omega arith
         go (negsuc n) h = absurd (omega (arith, h .least))
 

@@ -1,5 +1,5 @@
 -- A call by its refusal: refused, all is as it was; else it comes to what its definition says. Assumes nothing.
-use mathlib.Core.Path.{_≡_, refl, ap, _∙_}
+use mathlib.Core.Path.{_≡_, refl}
 use mathlib.Core.List.{List, []}
 use Prim.Native.Nat.{ℕ, zero, suc}
 use lib.IntN.{ℤ}

@@ -71,6 +71,9 @@ ready-within Ul = within-pos 1020 (lit≤ tt)
 pub from-zero : (z : ℤ) → pos 0 -ℤ z ≡ negℤ z
 from-zero z = +ℤ-idl (negℤ z)
 
+pub negated-fits : (z : ℤ) → Within (2 ^ 61) z → SFits w64 (pos 0 -ℤ z)
+negated-fits z h = difference-fits (pos 0) z (within-pos (2 ^ 61) (lit≤ tt)) h
+
 pub negated-within : {m : ℕ} (z : ℤ) → Within m z → Within m (negℤ z)
 negated-within z h = record { high = omega (arith, up-neg z, h); low = omega (arith, dn-neg z, h) }
 

@@ -2,8 +2,7 @@
 use mathlib.Core.Path.{_≡_, refl, sym, ap, _∙_}
 use mathlib.Core.Bool.{Bool, true, false, cond, not, _||_, _&&_}
 use mathlib.Core.List.{List, [], _∷_, _++_, map, append-nil}
-use Prim.Native.Nat.{ℕ, zero, suc, _+_, _≤_, _<_, _%_, min}
-use native.Mathlib.Nat.{min-le-left, min-le-right}
+use Prim.Native.Nat.{ℕ, zero, suc, _+_, _≤_, _<_, _%_}
 use native.Mathlib.Omega.{arith}
 use lib.Dec.{eqb, leb, lit<}
 use lib.ListN.{length, getD, set, take, drop, replicate, drop-of-length-le}
@@ -18,10 +17,10 @@ use Rattle.burst_finder.specs.Slots.{mostErrors, getBurst}
 use Rattle.demodulator.specs.declared.Mode.{Mode}
 use Rattle.demodulator.specs.declared.Mode.the-variants.{Idle, DlUnsynchronized, Dl, Ul}
 use Rattle.demodulator.specs.declared.RxBurst.{RxBurst}
-use Rattle.demodulator.specs.Receiver.{Clock, BurstView, HandedSlot, Receiver, withMode, withClock, noView}
+use Rattle.demodulator.specs.Receiver.{HandedSlot, Receiver, withMode, withClock, noView}
 use Rattle.demodulator.specs.Valid.{isFound, validView, validSlot}
 use Rattle.demodulator.specs.Calls.{padded, filled, burstShown, shown, takeRefusal, followRefusal, slotWhen, following}
-use Rattle.demodulator.specs.View.{modeOf, modeNumber, modeFollowing, storedView}
+use Rattle.demodulator.specs.View.{modeOf, modeFollowing, storedView}
 
 -- ---- a new receiver's past
 

@@ -20,7 +20,7 @@ use Rattle.burst_finder.specs.Search.{findSync}
 use Rattle.burst_finder.specs.Slots.{mostErrors, checkSlot, typeNumber, getBurst}
 use Rattle.demodulator.specs.declared.Mode.{Mode}
 use Rattle.demodulator.specs.declared.Mode.the-variants.{Idle, DlUnsynchronized, Dl, Ul}
-use Rattle.demodulator.specs.Signal.{Signal, quiet, hear, timingOf, bitsOf, slotTiming, windowBits}
+use Rattle.demodulator.specs.Signal.{Signal, quiet, hear, bitsOf, slotTiming, windowBits}
 
 -- the slot timing: when hyperframe number 0 began and when the current slot's window closes, both in samples with the filter's
 -- delay taken off, and the current slot's number

@@ -2,7 +2,7 @@
 -- crate account: nothing that calls leave is changed by it.)
 use Prim.Native.Nat.{ℕ, _%_, min}
 use mathlib.Core.Bool.{Bool, cond, not, _&&_, _||_}
-use mathlib.Core.List.{List, map}
+use mathlib.Core.List.{map}
 use lib.Dec.{eqb, leb}
 use lib.IntN.{ℤ, pos}
 use lib.Signed.{ltZ, mag}

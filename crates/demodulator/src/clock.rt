@@ -1,14 +1,14 @@
 // Slot timing: which slot is current, and when its window closes.
 use crate::State;
-use crate::sums::is_below;
 use crate::sums::minus;
 use crate::sums::plus;
+use crate::sums::since;
 use crate::sums::slots_long;
 use dsp_types::SampleCount;
 use dsp_types::TdmaTime;
 ghost use mathlib.Core.Path.{_≡_};
 ghost use mathlib.Core.List.{List, []};
-ghost use Prim.Native.Nat.{_+_, _-_, _*_, _^_, _<_};
+ghost use Prim.Native.Nat.{_-_, _*_, _^_, _<_};
 ghost use lib.IntN.{pos, _+ℤ_, _-ℤ_};
 ghost use lib.Ieee.{Float};
 ghost use Rattle.dsp_types.specs.Times.{slots};
@@ -24,9 +24,9 @@ fn slot_ready_from_begin(mode: u8) -> i64
 }
 
 // When the slot with this number is ready.
-pub(crate) fn ready_time(mode: u8, reference: i64, slot: u32) -> i64
-    requires { ⌜ Within (2 ^ 40) reference × (slot < slots) ⌝ }
-    ensures { λ r. ⌜ r ≡ reference +ℤ pos (slot * 1020) +ℤ slotReadyFromBegin (modeOf mode) ⌝ }
+pub(crate) fn ready_time(mode: u8, reference: SampleCount, slot: TdmaTime) -> SampleCount
+    requires { ⌜ Within (2 ^ 40) (reference .0) × (slot .0 < slots) ⌝ }
+    ensures { λ r. ⌜ r .0 ≡ reference .0 +ℤ pos (slot .0 * 1020) +ℤ slotReadyFromBegin (modeOf mode) ⌝ }
 {
     plus(
         plus(reference, slots_long(slot)),
@@ -35,18 +35,18 @@ pub(crate) fn ready_time(mode: u8, reference: i64, slot: u32) -> i64
 }
 
 // The counter less the filter's delay, less the ready time.
-pub(crate) fn tdiff(counter: i64, ready: i64) -> i64
-    requires { ⌜ Within (2 ^ 37) counter × Within (2 ^ 40) ready ⌝ }
-    ensures { λ r. ⌜ r ≡ counter -ℤ pos 16 -ℤ ready ⌝ }
+pub(crate) fn tdiff(counter: SampleCount, ready: SampleCount) -> i64
+    requires { ⌜ Within (2 ^ 37) (counter .0) × Within (2 ^ 40) (ready .0) ⌝ }
+    ensures { λ r. ⌜ r ≡ counter .0 -ℤ pos 16 -ℤ ready .0 ⌝ }
 {
-    minus(minus(counter, 16), ready)
+    since(minus(counter, 16), ready)
 }
 
 // Lost samples, or another reference time, can put the ready time into the past or far into the future.
 pub(crate) fn is_far(t: i64) -> bool
     ensures { λ r. ⌜ r ≡ far t ⌝ }
 {
-    is_below(t, -2040) | is_below(0, t)
+    (t < -2040) | (0 < t)
 }
 
 // How many slots the counter is past the ready time, rounded up.
@@ -54,7 +54,7 @@ fn slots_to_skip(t: i64) -> i32
     requires { ⌜ Within (2 ^ 41 - 2 ^ 34) t ⌝ }
     ensures { λ r. ⌜ r ≡ slotsToSkip t ⌝ }
 {
-    minus(0, dsp_types::div_euclid(minus(0, t), 1020)) as i32
+    (0 - dsp_types::div_euclid(0 - t, 1020)) as i32
 }
 
 impl State {
@@ -62,7 +62,7 @@ impl State {
         requires { ⌜ Within (2 ^ 40) (self .«reference_time» .0) × (slot .0 < slots) ⌝ }
         ensures { λ r. ⌜ ((re im abs : List Float) → receiverOf r re im abs ≡ withClock (receiverOf self re im abs) (setSlot (modeOf (self .mode)) (self .«reference_time» .0) (slot .0))) ⌝ }
     {
-        let ready = SampleCount(ready_time(self.mode, self.reference_time.0, slot.0));
+        let ready = ready_time(self.mode, self.reference_time, slot);
         let mut d = self;
         d.current_slot = slot;
         d.slot_ready_time = ready;

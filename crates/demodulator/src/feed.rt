@@ -7,12 +7,13 @@ use crate::process::is_beyond;
 use crate::process::sample_refusal;
 use crate::process::valid_count;
 use crate::process::valid_time;
-use crate::sums::is_below;
+use crate::sums::is_before;
 use crate::sums::is_same;
-use crate::sums::minus;
 use crate::sums::plus;
+use crate::sums::since;
 use dsp_types::ACCEPTED;
 use dsp_types::ComplexSample;
+use dsp_types::LAST_COUNTER;
 use dsp_types::SLOTS;
 use dsp_types::SampleCount;
 use dsp_types::least;
@@ -29,6 +30,11 @@ ghost use Rattle.demodulator.specs.View.{receiverOf, viewOf, Untouched};
 
 // So many samples are filtered at once: their rows fit the first level of cache.
 const PIECE: usize = 512;
+
+// Further from a window's close slots are skipped; so many counters are left behind the last that is looked at.
+const MOST_QUIET: i64 = 2040;
+
+const LAST_QUIET: i64 = LAST_COUNTER - MOST_QUIET;
 
 // Why no more samples were taken: there were no more, a slot was handed over, or the next one is refused.
 pub enum Stop {
@@ -47,27 +53,6 @@ pub struct StateFed {
     pub taken: usize,
     pub stop: Stop,
     pub state: State,
-}
-
-// How many samples from this counter on are only kept: the stored numbers are read as they are, none is missing, and no
-// window closes.
-fn quiet_from(reference: i64, ready: i64, slot: u32, misses: u32, next: i64, counter: i64) -> usize
-    ensures { λ r. ⌜ (0 < r → Quiet (record { referenceTime = reference; slotReadyTime = ready; currentSlot = slot }) misses next counter r) ⌝ }
-{
-    let reference_stands = is_same(valid_time(reference, FAR_REFERENCE), reference);
-    let ready_stands = is_same(valid_time(ready, FAR_READY), ready);
-    let follows = is_same(next, counter);
-    if !(reference_stands & ready_stands & follows & (slot < SLOTS) & (misses <= 100)) {
-        return 0;
-    }
-    if is_below(counter, 0) | is_below(137_438_950_000, counter) {
-        return 0;
-    }
-    let left = minus(plus(ready, 16), counter);
-    if is_below(left, 1) | is_below(2040, left) {
-        return 0;
-    }
-    dsp_types::unsigned(left) as usize
 }
 
 // Writes the parts of samples from the one numbered `at` on, at most so many, up to one that is too large. Returns how many.
@@ -94,17 +79,29 @@ fn parts_of(samples: &[f32], at: usize, most: usize, re: &mut [f32], im: &mut [f
 }
 
 impl State {
-    pub(crate) fn quiet_samples(self, counter: i64) -> usize
-        ensures { λ r. ⌜ (0 < r → Quiet (record { referenceTime = self .«reference_time» .0; slotReadyTime = self .«slot_ready_time» .0; currentSlot = self .«current_slot» .0 }) (self .«slots_since_last_valid_burst») (self .«next_input_sample_count» .0) counter r) ⌝ }
+    // How many samples from this counter on are only kept: the stored numbers are read as they are, none is missing, and no
+    // window closes.
+    pub(crate) fn quiet_samples(self, counter: SampleCount) -> usize
+        ensures { λ r. ⌜ (0 < r → Quiet (record { referenceTime = self .«reference_time» .0; slotReadyTime = self .«slot_ready_time» .0; currentSlot = self .«current_slot» .0 }) (self .«slots_since_last_valid_burst») (self .«next_input_sample_count» .0) (counter .0) r) ⌝ }
     {
-        quiet_from(
-            self.reference_time.0,
-            self.slot_ready_time.0,
-            self.current_slot.0,
-            self.slots_since_last_valid_burst,
-            self.next_input_sample_count.0,
-            counter,
-        )
+        let reference = self.reference_time;
+        let ready = self.slot_ready_time;
+        let reference_stands = is_same(valid_time(reference, FAR_REFERENCE), reference);
+        let ready_stands = is_same(valid_time(ready, FAR_READY), ready);
+        let follows = is_same(self.next_input_sample_count, counter);
+        let slot_stands = self.current_slot.0 < SLOTS;
+        let misses_stand = self.slots_since_last_valid_burst <= 100;
+        if !(reference_stands & ready_stands & follows & slot_stands & misses_stand) {
+            return 0;
+        }
+        if is_before(counter, SampleCount(0)) | is_before(SampleCount(LAST_QUIET), counter) {
+            return 0;
+        }
+        let left = since(plus(ready, 16), counter);
+        if (left < 1) | (MOST_QUIET < left) {
+            return 0;
+        }
+        dsp_types::unsigned(left) as usize
     }
 
     // Samples that are only kept: filter, magnitudes and rings, each over the whole block.
@@ -115,10 +112,10 @@ impl State {
         abs: &mut [f32; 2048],
         x: &[f32],
         y: &[f32],
-        next: i64,
+        next: SampleCount,
     ) -> State
         requires { ⌜ (length (now x) ≡ length (now y)) × (length (now x) ≤ 512) ⌝ }
-        ensures { λ r. ⌜ receiverOf r (now (re .exit)) (now (im .exit)) (now (abs .exit)) ≡ keepAll (receiverOf self (now (re .entry)) (now (im .entry)) (now (abs .entry))) (samplesOf (now (x .entry)) (now (y .entry))) next ⌝ }
+        ensures { λ r. ⌜ receiverOf r (now (re .exit)) (now (im .exit)) (now (abs .exit)) ≡ keepAll (receiverOf self (now (re .entry)) (now (im .entry)) (now (abs .entry))) (samplesOf (now (x .entry)) (now (y .entry))) (next .0) ⌝ }
     {
         let n = x.len();
         let mut out_re = [0.0f32; PIECE];
@@ -128,12 +125,11 @@ impl State {
         let mut sizes = [0.0f32; PIECE];
         magnitude::magnitudes(&out_re[..n], &out_im[..n], &mut sizes);
         let at = self.past_index;
-        let count = SampleCount(next);
         history::store(re, at, &out_re[..n]);
         history::store(im, at, &out_im[..n]);
         let index = history::store(abs, at, &sizes[..n]);
         let mut d = self;
-        d.next_input_sample_count = count;
+        d.next_input_sample_count = next;
         d.matched_filter = next_line;
         d.past_index = index;
         d
@@ -157,7 +153,7 @@ impl State {
         let mut s = self;
         let mut x = [0.0f32; PIECE];
         let mut y = [0.0f32; PIECE];
-        let mut counter = first.0;
+        let mut counter = first;
         let mut taken: usize = 0;
         while taken < samples.len() / 2 {
             let len = parts_of(samples, taken, s.quiet_samples(counter), &mut x, &mut y);
@@ -170,7 +166,7 @@ impl State {
                     re: samples[2 * taken],
                     im: samples[2 * taken + 1],
                 };
-                let next = valid_count(s.next_input_sample_count.0);
+                let next = valid_count(s.next_input_sample_count);
                 let refusal = sample_refusal(next, input, counter);
                 if refusal != ACCEPTED {
                     return StateFed {

@@ -14,8 +14,8 @@ ghost use Rattle.demodulator.specs.Calls.{slotWhen, following, followOut
 ghost use Rattle.demodulator.specs.View.{modeOf, modeFollowing, receiverOf, viewOf};
 
 // An idle receiver takes the other's last slot number too.
-fn slot_when(mode: u8, other: u32, own: u32) -> u32
-    ensures { λ r. ⌜ r ≡ slotWhen (modeOf mode) other own ⌝ }
+fn slot_when(mode: u8, other: TdmaTime, own: TdmaTime) -> TdmaTime
+    ensures { λ r. ⌜ r .0 ≡ slotWhen (modeOf mode) (other .0) (own .0) ⌝ }
 {
     match mode {
         1 => own,
@@ -33,11 +33,7 @@ impl State {
     {
         let other = demod.mode;
         let reference = demod.reference_time;
-        let slot = TdmaTime(slot_when(
-            self.mode,
-            demod.demodulated_slot.time.0,
-            self.current_slot.0,
-        ));
+        let slot = slot_when(self.mode, demod.demodulated_slot.time, self.current_slot);
         let mut d = self;
         match other {
             1 => {

@@ -49,7 +49,7 @@ impl State {
         let mode = number(initial_mode);
         let empty = no_burst();
         let line = FirComplexSym::new();
-        let ready = SampleCount(ready_time(mode, 0, 0));
+        let ready = ready_time(mode, SampleCount(0), TdmaTime(0));
         let slot = RxSlot {
             time: TdmaTime(0),
             full: empty,

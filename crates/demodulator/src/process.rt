@@ -2,10 +2,11 @@
 use crate::Demodulator;
 use crate::State;
 use crate::clock::tdiff;
-use crate::sums::is_below;
+use crate::sums::is_before;
 use crate::sums::is_same;
 use crate::sums::minus;
 use crate::sums::plus;
+use crate::sums::since;
 use crate::window::Heard;
 use dsp_types::ACCEPTED;
 use dsp_types::BAD_COUNTER;
@@ -69,43 +70,47 @@ pub(crate) fn is_beyond(part: f32) -> bool
 }
 
 // 0, or the refusal of a sample, where next is the counter after the last accepted one.
-pub(crate) fn sample_refusal(next: i64, input: ComplexSample, counter: i64) -> u32
-    ensures { λ r. ⌜ r ≡ sampleRefusal next input counter ⌝ }
+pub(crate) fn sample_refusal(next: SampleCount, input: ComplexSample, counter: SampleCount) -> u32
+    ensures { λ r. ⌜ r ≡ sampleRefusal (next .0) input (counter .0) ⌝ }
 {
     if is_beyond(input.re) | is_beyond(input.im) {
         return BAD_SAMPLE;
     }
-    if is_below(counter, 0) | is_below(LAST_COUNTER, counter) {
+    if is_before(counter, SampleCount(0)) | is_before(SampleCount(LAST_COUNTER), counter) {
         return BAD_COUNTER;
     }
-    if is_below(counter, next) {
+    if is_before(counter, next) {
         return PAST_COUNTER;
     }
     ACCEPTED
 }
 
 // How many zeros stand in for the samples missing before the counter: at most a slot's.
-fn missing_samples(next: i64, counter: i64) -> usize
-    requires { ⌜ Within (2 ^ 37) next × Counter counter × (ltZ counter next ≡ false) ⌝ }
-    ensures { λ r. ⌜ r ≡ missing (counter -ℤ next) ⌝ }
+fn missing_samples(next: SampleCount, counter: SampleCount) -> usize
+    requires { ⌜ Within (2 ^ 37) (next .0) × Counter (counter .0) × (ltZ (counter .0) (next .0) ≡ false) ⌝ }
+    ensures { λ r. ⌜ r ≡ missing (counter .0 -ℤ next .0) ⌝ }
 {
-    let lost = dsp_types::unsigned(minus(counter, next));
+    let lost = dsp_types::unsigned(since(counter, next));
     if lost < 1020 { lost as usize } else { 1020 }
 }
 
-pub(crate) fn valid_time(t: i64, most: u64) -> i64
-    ensures { λ r. ⌜ r ≡ validTime most t ⌝ }
+pub(crate) fn valid_time(t: SampleCount, most: u64) -> SampleCount
+    ensures { λ r. ⌜ r .0 ≡ validTime most (t .0) ⌝ }
 {
-    if dsp_types::unsigned(t) <= most { t } else { 0 }
+    if dsp_types::unsigned(t.0) <= most {
+        t
+    } else {
+        SampleCount(0)
+    }
 }
 
-pub(crate) fn valid_count(n: i64) -> i64
-    ensures { λ r. ⌜ r ≡ validCount n ⌝ }
+pub(crate) fn valid_count(count: SampleCount) -> SampleCount
+    ensures { λ r. ⌜ r .0 ≡ validCount (count .0) ⌝ }
 {
-    if is_below(n, 0) | is_below(LAST_NEXT, n) {
-        0
+    if is_before(count, SampleCount(0)) | is_before(SampleCount(LAST_NEXT), count) {
+        SampleCount(0)
     } else {
-        n
+        count
     }
 }
 
@@ -121,13 +126,13 @@ impl State {
         re: &'a [f32; 2048],
         im: &'a [f32; 2048],
         abs: &'a [f32; 2048],
-        counter: i64,
+        counter: SampleCount,
     ) -> Heard
-        requires { ⌜ Timed 2000 (receiverOf self (now re) (now im) (now abs)) × Counter counter ⌝ }
-        ensures handed { λ r. ⌜ r .handed ≡ handsOver (windowIf (closes (receiverOf self (now (re .entry)) (now (im .entry)) (now (abs .entry))) counter) (receiverOf self (now (re .entry)) (now (im .entry)) (now (abs .entry))) counter) ⌝ }
-        ensures state { λ r. ⌜ receiverOf (r .state) (now (re .entry)) (now (im .entry)) (now (abs .entry)) ≡ closeIf (closes (receiverOf self (now (re .entry)) (now (im .entry)) (now (abs .entry))) counter) (receiverOf self (now (re .entry)) (now (im .entry)) (now (abs .entry))) ⌝ }
+        requires { ⌜ Timed 2000 (receiverOf self (now re) (now im) (now abs)) × Counter (counter .0) ⌝ }
+        ensures handed { λ r. ⌜ r .handed ≡ handsOver (windowIf (closes (receiverOf self (now (re .entry)) (now (im .entry)) (now (abs .entry))) (counter .0)) (receiverOf self (now (re .entry)) (now (im .entry)) (now (abs .entry))) (counter .0)) ⌝ }
+        ensures state { λ r. ⌜ receiverOf (r .state) (now (re .entry)) (now (im .entry)) (now (abs .entry)) ≡ closeIf (closes (receiverOf self (now (re .entry)) (now (im .entry)) (now (abs .entry))) (counter .0)) (receiverOf self (now (re .entry)) (now (im .entry)) (now (abs .entry))) ⌝ }
     {
-        if is_same(minus(counter, 16), self.slot_ready_time.0) {
+        if is_same(minus(counter, 16), self.slot_ready_time) {
             return self.close_window(re, im, abs);
         }
         Heard {
@@ -142,13 +147,13 @@ impl State {
         im: &mut [f32; 2048],
         abs: &mut [f32; 2048],
         input: ComplexSample,
-        counter: i64,
+        counter: SampleCount,
     ) -> Heard
-        requires { ⌜ Timed 2000 (receiverOf self (now re) (now im) (now abs)) × Counter counter ⌝ }
-        ensures handed { λ r. ⌜ r .handed ≡ handsOver (windowOf (receiverOf self (now (re .entry)) (now (im .entry)) (now (abs .entry))) input counter) ⌝ }
-        ensures state { λ r. ⌜ receiverOf (r .state) (now (re .exit)) (now (im .exit)) (now (abs .exit)) ≡ processSample (receiverOf self (now (re .entry)) (now (im .entry)) (now (abs .entry))) input counter ⌝ }
+        requires { ⌜ Timed 2000 (receiverOf self (now re) (now im) (now abs)) × Counter (counter .0) ⌝ }
+        ensures handed { λ r. ⌜ r .handed ≡ handsOver (windowOf (receiverOf self (now (re .entry)) (now (im .entry)) (now (abs .entry))) input (counter .0)) ⌝ }
+        ensures state { λ r. ⌜ receiverOf (r .state) (now (re .exit)) (now (im .exit)) (now (abs .exit)) ≡ processSample (receiverOf self (now (re .entry)) (now (im .entry)) (now (abs .entry))) input (counter .0) ⌝ }
     {
-        let t = tdiff(counter, self.slot_ready_time.0);
+        let t = tdiff(counter, self.slot_ready_time);
         self.listen(re, im, abs, input)
             .skip_slots(t)
             .close_if_ready(re, im, abs, counter)
@@ -161,10 +166,10 @@ impl State {
         im: &mut [f32; 2048],
         abs: &mut [f32; 2048],
         count: usize,
-        counter: i64,
+        counter: SampleCount,
     ) -> Zeros
-        requires { ⌜ Catching count (receiverOf self (now re) (now im) (now abs)) counter ⌝ }
-        ensures { λ r. ⌜ Caught count (receiverOf self (now (re .entry)) (now (im .entry)) (now (abs .entry))) counter (r .left) (r .handed) (receiverOf (r .state) (now (re .exit)) (now (im .exit)) (now (abs .exit))) ⌝ }
+        requires { ⌜ Catching count (receiverOf self (now re) (now im) (now abs)) (counter .0) ⌝ }
+        ensures { λ r. ⌜ Caught count (receiverOf self (now (re .entry)) (now (im .entry)) (now (abs .entry))) (counter .0) (r .left) (r .handed) (receiverOf (r .state) (now (re .exit)) (now (im .exit)) (now (abs .exit))) ⌝ }
     {
         let mut d = self;
         let mut left = count;
@@ -192,9 +197,9 @@ impl State {
     pub(crate) fn valid(self) -> State
         ensures { λ r. ⌜ ((re im abs : List Float) → receiverOf r re im abs ≡ valid (receiverOf self re im abs)) ⌝ }
     {
-        let reference = SampleCount(valid_time(self.reference_time.0, FAR_REFERENCE));
-        let ready = SampleCount(valid_time(self.slot_ready_time.0, FAR_READY));
-        let next = SampleCount(valid_count(self.next_input_sample_count.0));
+        let reference = valid_time(self.reference_time, FAR_REFERENCE);
+        let ready = valid_time(self.slot_ready_time, FAR_READY);
+        let next = valid_count(self.next_input_sample_count);
         let slot = TdmaTime(self.current_slot.to_int());
         let misses = at_most_100(self.slots_since_last_valid_burst);
         let mut d = self;
@@ -213,14 +218,14 @@ impl State {
         im: &mut [f32; 2048],
         abs: &mut [f32; 2048],
         input: ComplexSample,
-        counter: i64,
+        counter: SampleCount,
     ) -> Heard
-        requires { ⌜ Accepts (receiverOf self (now re) (now im) (now abs)) counter ⌝ }
-        ensures handed { λ r. ⌜ r .handed ≡ handsOver (acceptWindows (receiverOf self (now (re .entry)) (now (im .entry)) (now (abs .entry))) input counter) ⌝ }
-        ensures state { λ r. ⌜ receiverOf (r .state) (now (re .exit)) (now (im .exit)) (now (abs .exit)) ≡ accept (receiverOf self (now (re .entry)) (now (im .entry)) (now (abs .entry))) input counter ⌝ }
+        requires { ⌜ Accepts (receiverOf self (now re) (now im) (now abs)) (counter .0) ⌝ }
+        ensures handed { λ r. ⌜ r .handed ≡ handsOver (acceptWindows (receiverOf self (now (re .entry)) (now (im .entry)) (now (abs .entry))) input (counter .0)) ⌝ }
+        ensures state { λ r. ⌜ receiverOf (r .state) (now (re .exit)) (now (im .exit)) (now (abs .exit)) ≡ accept (receiverOf self (now (re .entry)) (now (im .entry)) (now (abs .entry))) input (counter .0) ⌝ }
     {
-        let mut left = missing_samples(self.next_input_sample_count.0, counter);
-        let next = SampleCount(plus(counter, 1));
+        let mut left = missing_samples(self.next_input_sample_count, counter);
+        let next = plus(counter, 1);
         let mut d = self;
         let mut handed = false;
         while 0 < left {
@@ -251,18 +256,17 @@ impl State {
         ensures receiver { λ r. ⌜ receiverOf (r .state) (now (re .exit)) (now (im .exit)) (now (abs .exit)) ≡ sampleOutcome (receiverOf self (now (re .entry)) (now (im .entry)) (now (abs .entry))) input («sample_counter» .0) .receiver ⌝ }
         ensures refused { λ r. ⌜ ((n : ℕ) → r .answer ≡ Answer.Refused n → Untouched self (r .state) (now (re .entry)) (now (re .exit)) (now (im .entry)) (now (im .exit)) (now (abs .entry)) (now (abs .exit))) ⌝ }
     {
-        let counter = sample_counter.0;
-        let next = valid_count(self.next_input_sample_count.0);
-        let refusal = sample_refusal(next, input, counter);
+        let next = valid_count(self.next_input_sample_count);
+        let refusal = sample_refusal(next, input, sample_counter);
         if refusal != ACCEPTED {
             return StateAnswered {
                 answer: Answer::Refused(refusal),
                 state: self,
             };
         }
-        if 0 < self.quiet_samples(counter) {
+        if 0 < self.quiet_samples(sample_counter) {
             // It is only kept.
-            let count = SampleCount(plus(counter, 1));
+            let count = plus(sample_counter, 1);
             let mut kept = self.listen(re, im, abs, input);
             kept.next_input_sample_count = count;
             return StateAnswered {
@@ -270,7 +274,7 @@ impl State {
                 state: kept,
             };
         }
-        let heard = self.valid().accept(re, im, abs, input, counter);
+        let heard = self.valid().accept(re, im, abs, input, sample_counter);
         let state = heard.state;
         StateAnswered {
             answer: Answer::Accepted,

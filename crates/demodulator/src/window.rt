@@ -81,9 +81,9 @@ fn checked_burst(slot_type: SlotType, bits: [u8; 510], n: usize) -> RxBurst
 
 // The reference time of a burst found at this place of a search window, one slot before the burst began: 1018 samples
 // before the window's close, less those of (510 - 2 - place) / 2 symbols.
-fn found_time(ready: i64, place: usize) -> i64
-    requires { ⌜ Within (2 ^ 38) ready × (place ≤ 256) ⌝ }
-    ensures { λ r. ⌜ r ≡ ready -ℤ pos 2034 +ℤ pos (place * 2) ⌝ }
+fn found_time(ready: SampleCount, place: usize) -> SampleCount
+    requires { ⌜ Within (2 ^ 38) (ready .0) × (place ≤ 256) ⌝ }
+    ensures { λ r. ⌜ r .0 ≡ ready .0 -ℤ pos 2034 +ℤ pos (place * 2) ⌝ }
 {
     plus(minus(ready, 2034), (place * 2) as i64)
 }
@@ -133,7 +133,7 @@ impl State {
             return self.emptied(self.demodulated_slot.time);
         }
         // The step to the next slot makes the current one 0, and the next sample skips that: the burst found is slot 1.
-        let reference = SampleCount(found_time(self.slot_ready_time.0, found.pos));
+        let reference = found_time(self.slot_ready_time, found.pos);
         let mut d = self.emptied(TdmaTime(0));
         d.reference_time = reference;
         d.averaged_timing_error = averaged(0.0, w.timing);
@@ -242,12 +242,12 @@ impl State {
     {
         let mut d = self;
         if 0.5 < d.averaged_timing_error {
-            let later = SampleCount(plus(d.reference_time.0, 1));
+            let later = plus(d.reference_time, 1);
             d.reference_time = later;
             d.averaged_timing_error = d.averaged_timing_error - 1.0;
         }
         if d.averaged_timing_error < -0.5 {
-            let sooner = SampleCount(minus(d.reference_time.0, 1));
+            let sooner = minus(d.reference_time, 1);
             d.reference_time = sooner;
             d.averaged_timing_error = d.averaged_timing_error + 1.0;
         }
@@ -262,7 +262,7 @@ impl State {
         let mode = self.mode;
         match mode {
             1 => {
-                let ready = SampleCount(plus(self.slot_ready_time.0, 400));
+                let ready = plus(self.slot_ready_time, 400);
                 let mut d = self;
                 d.slot_ready_time = ready;
                 d

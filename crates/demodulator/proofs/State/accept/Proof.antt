@@ -5,15 +5,12 @@ use Prim.Native.Nat.{ℕ, _-_, _≤_, _<_, _^_}
 use native.Mathlib.Omega.{arith}
 use lib.Dec.{lit≤}
 use lib.IntN.{_-ℤ_}
-use mir.Syntax.{w64}
-use mir.Val.{toZ, ofZ}
-use mir.ValLaws.{toZ-ofZ}
 use Rattle.dsp_types.specs.Ints.{up}
 use Rattle.demodulator.specs.Receiver.{Receiver, withNext, processSample, missing, feedZeros, accept}
-use Rattle.demodulator.specs.Windows.{handsOver, windowOf, zerosWindows}
+use Rattle.demodulator.specs.Windows.{handsOver, zerosWindows}
 use Rattle.demodulator.specs.View.{receiverOf}
-use Rattle.demodulator.specs.Bounds.{Timed, Catching}
-use Rattle.demodulator.proofs.Signed.{read, read-within, wider, within-pos, counter-within}
+use Rattle.demodulator.specs.Bounds.{Timed}
+use Rattle.demodulator.proofs.Signed.{within-pos, counter-within}
 use Rattle.demodulator.proofs.Samples.{no-zeros}
 use Rattle.demodulator.proofs.Handing.{or-false, or-assoc, no-zeros-hand, accept-hands}
 use Rattle.demodulator.proofs.Doors.{missing-most, missing-below}
@@ -26,31 +23,29 @@ abbrev Inv-loop : tie.InvT-loop
 Inv-loop re₀ im₀ abs₀ input counter left₀ next d₀ handed₀ re im abs left d handed =
     (left ≤ left₀)
     × Timed (1021 - left) (receiverOf d re im abs)
-    × (feedZeros left₀ (receiverOf d₀ re₀ im₀ abs₀) (toZ w64 counter) ≡ feedZeros left (receiverOf d re im abs) (toZ w64 counter))
-    × (handsOver (zerosWindows left₀ (receiverOf d₀ re₀ im₀ abs₀) (toZ w64 counter)) ≡ (handed || handsOver (zerosWindows left (receiverOf d re im abs) (toZ w64 counter))))
+    × (feedZeros left₀ (receiverOf d₀ re₀ im₀ abs₀) (counter .0) ≡ feedZeros left (receiverOf d re im abs) (counter .0))
+    × (handsOver (zerosWindows left₀ (receiverOf d₀ re₀ im₀ abs₀) (counter .0)) ≡ (handed || handsOver (zerosWindows left (receiverOf d re im abs) (counter .0))))
 
 abbrev μ-loop : tie.MeasureT-loop
 μ-loop re₀ im₀ abs₀ input counter left₀ next d₀ handed₀ re im abs left d handed = left
 
 abbrev start : tie.After-missing-samples Inv-loop μ-loop → tie.Start Inv-loop μ-loop
-start c = c .before .before
+start c = c .before
 
 abbrev given : tie.Start Inv-loop μ-loop → Receiver
 given s = receiverOf (s .args .self) (s .args .re .now) (s .args .im .now) (s .args .abs .now)
 
-lost : (c : tie.After-missing-samples Inv-loop μ-loop) → c .missing-samples .result ≡ missing (start c .args .counter -ℤ given (start c) .next)
+lost : (c : tie.After-missing-samples Inv-loop μ-loop) → c .missing-samples .result ≡ missing (start c .args .counter .0 -ℤ given (start c) .next)
 unfolding receiverOf
-lost c =
-    let p = start c .pre in
-    c .missing-samples .ensures ∙ rw (read-within (wider (2 ^ 61) (lit≤ tt) (p .next)), read-within (counter-within (p .counter)))
+lost c = c .missing-samples .ensures
 
 few : (c : tie.After-missing-samples Inv-loop μ-loop) → c .missing-samples .result ≤ 1020
-few c = omega (arith, lost c, missing-most (start c .args .counter -ℤ given (start c) .next))
+few c = omega (arith, lost c, missing-most (start c .args .counter .0 -ℤ given (start c) .next))
 
-fewer : (c : tie.After-missing-samples Inv-loop μ-loop) → c .missing-samples .result ≤ up (start c .args .counter)
+fewer : (c : tie.After-missing-samples Inv-loop μ-loop) → c .missing-samples .result ≤ up (start c .args .counter .0)
 fewer c =
     let s = start c in
-    omega (arith, lost c, missing-below (s .args .counter) (given s .next) (s .pre .low) (s .pre .counter .low))
+    omega (arith, lost c, missing-below (s .args .counter .0) (given s .next) (s .pre .low) (s .pre .counter .low))
 
 abbrev number : tie.At-loop Inv-loop μ-loop → tie.After-missing-samples Inv-loop μ-loop
 number t = t .before .before
@@ -61,13 +56,11 @@ receiver t = receiverOf (t .loop .d) (t .loop .re) (t .loop .im) (t .loop .abs)
 missing-samples-requires : tie.Need-missing-samples-requires Inv-loop μ-loop
 unfolding receiverOf
 missing-samples-requires c κs =
-    let p = c .before .pre in
-    rw (read-within (wider (2 ^ 61) (lit≤ tt) (p .next)), read-within (counter-within (p .counter))) (p .next, p .counter, p .later)
+    let p = c .pre in
+    (p .next, p .counter, p .later)
 
 plus-requires : tie.Need-plus-requires Inv-loop μ-loop
-plus-requires c κs =
-    let h = counter-within (start c .pre .counter) in
-    rw (read-within h) (h, within-pos (2 ^ 61) (lit≤ tt))
+plus-requires c κs = (counter-within (start c .pre .counter), within-pos (2 ^ 61) (lit≤ tt))
 
 loop-holds : tie.Need-loop-holds Inv-loop μ-loop
 loop-holds c = (omega arith, timed-longer (1021 - c .before .missing-samples .result) (omega (arith, few (c .before))) (start (c .before) .pre .timed), refl, refl)
@@ -78,8 +71,7 @@ process-zeros-requires c κs =
     let n = number t in
     let p = start n .pre in
     let l : t .loop .left ≤ n .missing-samples .result = t .loop .inv .0 in
-    rw (read-within (counter-within (p .counter)))
-    (record { timed = t .loop .inv .1; counter = p .counter; most = omega (arith, few n, l); above-zero = omega (arith, fewer n, l) })
+    record { timed = t .loop .inv .1; counter = p .counter; most = omega (arith, few n, l); above-zero = omega (arith, fewer n, l) }
 
 loop-less : tie.Need-loop-less Inv-loop μ-loop
 loop-less c =
@@ -109,27 +101,23 @@ module _ (t : tie.At-loop Inv-loop μ-loop) (ends : t .loop .left ≤ 0) where
   abbrev s : tie.Start Inv-loop μ-loop
   s = start (number t)
 
-  counted : toZ w64 (ofZ w64 (s .args .counter)) ≡ s .args .counter
-  counted = toZ-ofZ w64 (s .args .counter) (s .fits .counter)
-
-  zeroed : receiver t ≡ feedZeros (missing (s .args .counter -ℤ given s .next)) (given s) (s .args .counter)
+  zeroed : receiver t ≡ feedZeros (missing (s .args .counter .0 -ℤ given s .next)) (given s) (s .args .counter .0)
   zeroed =
-      no-zeros (t .loop .left) (receiver t) (s .args .counter) ends
-      ∙ sym (rw counted at (t .loop .inv .2))
-      ∙ ap (λ (n : ℕ). feedZeros n (given s) (s .args .counter)) (lost (number t))
+      no-zeros (t .loop .left) (receiver t) (s .args .counter .0) ends
+      ∙ sym (t .loop .inv .2)
+      ∙ ap (λ (n : ℕ). feedZeros n (given s) (s .args .counter .0)) (lost (number t))
 
-  zeros-handed : t .loop .handed ≡ handsOver (zerosWindows (missing (s .args .counter -ℤ given s .next)) (given s) (s .args .counter))
+  zeros-handed : t .loop .handed ≡ handsOver (zerosWindows (missing (s .args .counter .0 -ℤ given s .next)) (given s) (s .args .counter .0))
   zeros-handed =
       sym (or-false (t .loop .handed))
-      ∙ ap (λ (b : Bool). t .loop .handed || b) (sym (no-zeros-hand (t .loop .left) (receiver t) (s .args .counter) ends))
-      ∙ sym (rw counted at (t .loop .inv .3))
-      ∙ ap (λ (n : ℕ). handsOver (zerosWindows n (given s) (s .args .counter))) (lost (number t))
+      ∙ ap (λ (b : Bool). t .loop .handed || b) (sym (no-zeros-hand (t .loop .left) (receiver t) (s .args .counter .0) ends))
+      ∙ sym (t .loop .inv .3)
+      ∙ ap (λ (n : ℕ). handsOver (zerosWindows n (given s) (s .args .counter .0))) (lost (number t))
 
 process-sample-requires : tie.Need-process-sample-requires Inv-loop μ-loop
 process-sample-requires c κs =
     let t = c .before .before .before .before in
-    let p = start (number t) .pre in
-    rw (read-within (counter-within (p .counter))) (timed-longer 2000 (omega arith) (t .loop .inv .1), p .counter)
+    (timed-longer 2000 (omega arith) (t .loop .inv .1), start (number t) .pre .counter)
 
 returns : tie.Need-returns Inv-loop μ-loop
 unfolding accept receiverOf withNext
@@ -138,16 +126,14 @@ returns c =
     let t = p .before .before .before .before .before in
     let s = start (number t) in
     let ends = none-left (p .before .before .before .before) in
-    let h = counter-within (s .pre .counter) in
     let u = t .before in
-    let n = toZ w64 (ofZ w64 (u .plus .result)) in
-    let k = missing (s .args .counter -ℤ given s .next) in
+    let k = missing (s .args .counter .0 -ℤ given s .next) in
     let r = p .process-sample .ensures in (
       ap (λ (b : Bool). b || p .process-sample .result .handed) (zeros-handed t ends)
-          ∙ ap (λ (b : Bool). handsOver (zerosWindows k (given s) (s .args .counter)) || b) (rw (zeroed t ends, read-within h) at (r .0))
-          ∙ sym (accept-hands (given s) (s .args .input) (s .args .counter)),
-      ap (λ (q : Receiver). withNext q n) (rw (zeroed t ends, read-within h) at (r .1))
-          ∙ ap (withNext (processSample (feedZeros k (given s) (s .args .counter)) (s .args .input) (s .args .counter))) (read _ (u .plus .ok) ∙ u .plus .ensures ∙ rw (read-within h)),
+          ∙ ap (λ (b : Bool). handsOver (zerosWindows k (given s) (s .args .counter .0)) || b) (rw (zeroed t ends) at (r .0))
+          ∙ sym (accept-hands (given s) (s .args .input) (s .args .counter .0)),
+      ap (λ (q : Receiver). withNext q (u .plus .result .0)) (rw (zeroed t ends) at (r .1))
+          ∙ ap (withNext (processSample (feedZeros k (given s) (s .args .counter .0)) (s .args .input) (s .args .counter .0))) (u .plus .ensures),
     )
 
 pub accept-spec : {M : Type 1} → statement M

@@ -4,7 +4,7 @@ use Prim.Native.Nat.{_^_}
 use lib.Dec.{lit≤}
 use Rattle.demodulator.specs.Receiver.{Receiver, closes, closeIf}
 use Rattle.demodulator.specs.View.{receiverOf}
-use Rattle.demodulator.proofs.Signed.{read, read-within, wider, within-pos, counter-within}
+use Rattle.demodulator.proofs.Signed.{within-pos, counter-within}
 use Rattle.demodulator.proofs.Steps.{closing}
 use Rattle.demodulator.proofs.Handing.{hands-closed, hands-none}
 use borrow.Author.Needs.{needs}
@@ -14,38 +14,34 @@ use Rattle.demodulator.proofs.State.close_if_ready.Tie as tie
 abbrev receiver : tie.Start → Receiver
 receiver s = receiverOf (s .args .self) (s .args .re .now) (s .args .im .now) (s .args .abs .now)
 
-tested : (c : tie.After-is-same) → c .is-same .result ≡ closes (receiver (c .before .before .before)) (c .before .before .before .args .counter)
+tested : (c : tie.After-is-same) → c .is-same .result ≡ closes (receiver (c .before .before)) (c .before .before .args .counter .0)
 unfolding closes receiverOf
-tested c =
-    let s = c .before .before .before in
-    rw (c .is-same .ensures, read-within (wider (2 ^ 61) (lit≤ tt) (s .pre .0 .ready)), read _ (c .before .before .minus .ok), c .before .before .minus .ensures, read-within (counter-within (s .pre .1)))
+tested c = rw (c .is-same .ensures, c .before .minus .ensures)
 
 minus-requires : tie.Need-minus-requires
-minus-requires c κs =
-    let h = counter-within (c .pre .1) in
-    rw (read-within h) (h, within-pos (2 ^ 61) (lit≤ tt))
+minus-requires c κs = (counter-within (c .pre .1), within-pos (2 ^ 61) (lit≤ tt))
 
 is-same-requires : tie.Need-is-same-requires
 is-same-requires c κs = search needs
 
 close-window-requires : tie.Need-close-window-requires
 close-window-requires c κs =
-    let s = c .before .before .before .before in
-    closing 2000 (receiver s) (s .args .counter) (s .pre .0) (s .pre .1) (sym (tested (c .before)) ∙ c .if1 .taken)
+    let s = c .before .before .before in
+    closing 2000 (receiver s) (s .args .counter .0) (s .pre .0) (s .pre .1) (sym (tested (c .before)) ∙ c .if1 .taken)
 
 returns : tie.Need-returns
 unfolding closeIf receiverOf
 returns c =
-    let s = c .before .before .before .before .before in
+    let s = c .before .before .before .before in
     let t = sym (tested (c .before .before)) ∙ c .before .if1 .taken in
-    (rw t (c .close-window .ensures .0 ∙ hands-closed (receiver s) (s .args .counter)), rw t (c .close-window .ensures .1))
+    (rw t (c .close-window .ensures .0 ∙ hands-closed (receiver s) (s .args .counter .0)), rw t (c .close-window .ensures .1))
 
 returns-2 : tie.Need-returns-2
 unfolding closeIf receiverOf
 returns-2 c =
-    let s = c .before .before .before .before in
+    let s = c .before .before .before in
     let t = sym (tested (c .before)) ∙ c .if1 .left in
-    (rw t (hands-none (receiver s) (s .args .counter)), rw t)
+    (rw t (hands-none (receiver s) (s .args .counter .0)), rw t)
 
 pub close-if-ready-spec : {M : Type 1} → statement M
 close-if-ready-spec =

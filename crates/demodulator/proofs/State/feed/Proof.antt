@@ -5,8 +5,8 @@ use native.Mathlib.Omega.{arith}
 use lib.ListN.{length, take, drop}
 use lib.Seq.{length-take-le}
 use mir.Syntax.{w64}
-use mir.Val.{toZ, ofZ, SFits}
-use mir.ValLaws.{toZ-ofZ, toZ-pos}
+use mir.Val.{toZ}
+use mir.ValLaws.{toZ-pos}
 use Rattle.dsp_types.specs.Ints.{up, dn}
 use Rattle.dsp_types.specs.declared.ComplexSample.{ComplexSample}
 use Rattle.demodulator.specs.Receiver.{Receiver, withClock, withLock, withNext}
@@ -21,7 +21,7 @@ use lib.IntN.{ℤ, pos}
 use lib.Ieee.{Float}
 use Rattle.demodulator.specs.Valid.{validCount, valid}
 use Rattle.demodulator.specs.Calls.{sampleRefusal}
-use Rattle.demodulator.proofs.Signed.{read, within-pos, counter-within}
+use Rattle.demodulator.proofs.Signed.{within-pos, counter-within}
 use Rattle.demodulator.proofs.Doors.{valid-timed, valid-next, Heard, not-refused}
 use Rattle.demodulator.specs.Feed.{interleaved, feedOf}
 use Rattle.demodulator.specs.View.{receiverOf, Untouched}
@@ -36,18 +36,14 @@ Inv-loop re₀ im₀ abs₀ samples s₀ x₀ y₀ counter₀ taken₀ re im abs
     × (length samples * 4 < 2 ^ 63)
     × (length x ≡ 512)
     × (length y ≡ 512)
-    × (feedOf (receiverOf s₀ re₀ im₀ abs₀) (interleaved samples) (toZ w64 counter₀) ≡ ahead taken (feedOf (receiverOf s re im abs) (interleaved (drop (2 * taken) samples)) (toZ w64 counter)))
+    × (feedOf (receiverOf s₀ re₀ im₀ abs₀) (interleaved samples) (counter₀ .0) ≡ ahead taken (feedOf (receiverOf s re im abs) (interleaved (drop (2 * taken) samples)) (counter .0)))
     × (taken ≡ 0 → Untouched s₀ s re₀ re im₀ im abs₀ abs)
 
 abbrev μ-loop : tie.MeasureT-loop
 μ-loop re₀ im₀ abs₀ samples s₀ x₀ y₀ counter₀ taken₀ re im abs s x y counter taken = length samples / 2 - taken
 
--- before the loop, in it, and at its next sample
-abbrev first : tie.At-loop Inv-loop μ-loop → tie.After-struct-told Inv-loop μ-loop
-first t = t .before
-
 abbrev start : tie.At-loop Inv-loop μ-loop → tie.Start Inv-loop μ-loop
-start t = first t .before .before
+start t = t .before .before
 
 -- the receiver as it was given
 abbrev given : tie.Start Inv-loop μ-loop → Receiver
@@ -60,55 +56,40 @@ abbrev receiver : tie.At-loop Inv-loop μ-loop → Receiver
 receiver t = receiverOf (t .loop .s) (t .loop .re) (t .loop .im) (t .loop .abs)
 
 abbrev parted : tie.After-sample-refusal Inv-loop μ-loop → tie.After-parts-of Inv-loop μ-loop
-parted c = c .before .before .before .before .before .before .before .before
+parted c = c .before .before .before .before .before .before .before
 
 -- the next sample
 abbrev sample : tie.At-loop Inv-loop μ-loop → ComplexSample
 sample t = part (start t .args .samples .now) (t .loop .taken)
 
--- the first counter, told where nothing else is known yet
-first-fits : (c : tie.After-struct-told Inv-loop μ-loop) → SFits w64 (c .before .before .args .first .0)
-first-fits c = search needs
-
--- the counter after the last accepted one, likewise
-next-fits : (c : tie.After-struct-told2 Inv-loop μ-loop) → SFits w64 (turn (c .before .before .before .before .before .before) .loop .s .«next_input_sample_count» .0)
-next-fits c = search needs
-
 -- there is one more sample
 one-more : (c : tie.After-parts-of Inv-loop μ-loop) → let n = length (start (turn c) .args .samples .now) in (turn c .loop .taken + 1 ≤ n / 2) × (n * 4 < 2 ^ 63)
 one-more c = (omega arith, turn c .loop .inv .1)
 
--- the loop starts with the receiver and the counter that were given
-same : (t : tie.At-loop Inv-loop μ-loop) → let a = start t .args in
-    feedOf (given (start t)) (interleaved (a .samples .now)) (toZ w64 (ofZ w64 (a .first .0))) ≡ feedOf (given (start t)) (interleaved (a .samples .now)) (a .first .0)
-same t = ap (feedOf (given (start t)) (interleaved (start t .args .samples .now))) (toZ-ofZ w64 _ (first-fits (first t)))
-
 -- what all samples come to, from the receiver as it was given
 whole : (t : tie.At-loop Inv-loop μ-loop) → let s = start t in
     feedOf (given s) (interleaved (s .args .samples .now)) (s .args .first .0)
-    ≡ ahead (t .loop .taken) (feedOf (receiver t) (interleaved (drop (2 * t .loop .taken) (s .args .samples .now))) (toZ w64 (t .loop .counter)))
-whole t = sym (same t) ∙ t .loop .inv .4
+    ≡ ahead (t .loop .taken) (feedOf (receiver t) (interleaved (drop (2 * t .loop .taken) (s .args .samples .now))) (t .loop .counter .0))
+whole t = t .loop .inv .4
 
 -- the sample is judged by the counter after the last accepted one, as it is read
 judged : (c : tie.After-sample-refusal Inv-loop μ-loop) → let t = turn (parted c) in
-    c .sample-refusal .result ≡ sampleRefusal (validCount (receiver t .next)) (sample t) (toZ w64 (t .loop .counter))
+    c .sample-refusal .result ≡ sampleRefusal (validCount (receiver t .next)) (sample t) (t .loop .counter .0)
 unfolding receiverOf
 judged c =
     let t = turn (parted c) in
-    let n : toZ w64 (ofZ w64 (c .before .valid-count .result)) ≡ validCount (t .loop .s .«next_input_sample_count» .0) =
-    read _ (c .before .valid-count .ok) ∙ c .before .valid-count .ensures ∙ ap validCount (toZ-ofZ w64 _ (next-fits (c .before .before))) in
-    c .sample-refusal .ensures ∙ ap (λ (z : ℤ). sampleRefusal z (sample t) (toZ w64 (t .loop .counter))) n
+    c .sample-refusal .ensures ∙ ap (λ (z : ℤ). sampleRefusal z (sample t) (t .loop .counter .0)) (c .before .valid-count .ensures)
 
 -- the block as it stands in this turn, its next sample first
 left : (c : tie.After-sample-refusal Inv-loop μ-loop) → let t = turn (parted c) in let s = start t in
     feedOf (given s) (interleaved (s .args .samples .now)) (s .args .first .0)
-    ≡ ahead (t .loop .taken) (feedOf (receiver t) (sample t ∷ interleaved (drop (2 * (t .loop .taken + 1)) (s .args .samples .now))) (toZ w64 (t .loop .counter)))
+    ≡ ahead (t .loop .taken) (feedOf (receiver t) (sample t ∷ interleaved (drop (2 * (t .loop .taken + 1)) (s .args .samples .now))) (t .loop .counter .0))
 left c =
     let t = turn (parted c) in
     rw (next-sample (start t .args .samples .now) (t .loop .taken) (omega (arith, one-more (parted c) .0))) at (whole t)
 
 -- it is not refused
-heard : (c : tie.After-valid Inv-loop μ-loop) → let t = turn (parted (c .before .before)) in Heard (validCount (receiver t .next)) (toZ w64 (t .loop .counter))
+heard : (c : tie.After-valid Inv-loop μ-loop) → let t = turn (parted (c .before .before)) in Heard (validCount (receiver t .next)) (t .loop .counter .0)
 heard c = not-refused _ _ _ (sym (judged (c .before .before)) ∙ c .before .if2 .left)
 
 -- the receiver as it is read
@@ -127,7 +108,7 @@ split c = c .before .before .before
 
 -- the samples of a block are only kept
 quiet : (c : tie.Then1 Inv-loop μ-loop) → let t = turn (split c) in let d = receiver t in
-    Quiet (d .clock) (d .lock .misses) (d .next) (toZ w64 (t .loop .counter)) (split c .parts-of .result)
+    Quiet (d .clock) (d .lock .misses) (d .next) (t .loop .counter .0) (split c .parts-of .result)
 unfolding receiverOf
 quiet c =
     let p = split c in
@@ -170,7 +151,7 @@ cast-plus c = search needs
 plus-requires : tie.Need-plus-requires Inv-loop μ-loop
 plus-requires c κs =
     let q = quiet c in
-    rw (len-reads c) (counter-low (toZ w64 (turn (split c) .loop .counter)) (q .low) (omega (arith, q .high)), within-pos (2 ^ 61) (omega (arith, split c .parts-of .ensures .0 .1)))
+    rw (len-reads c) (counter-low (turn (split c) .loop .counter .0) (q .low) (omega (arith, q .high)), within-pos (2 ^ 61) (omega (arith, split c .parts-of .ensures .0 .1)))
   where
     counter-low : (z : ℤ) → dn z ≤ 0 → up z ≤ 2 ^ 37 → Within (2 ^ 61) z
     counter-low z l h = record { high = omega (arith, h); low = omega (arith, l) }
@@ -211,10 +192,10 @@ loop-again c =
     let l = t .loop in
     let n = samples-count (p .parts-of .result) (xs p) (ys p) (xs-long p) (ys-long p) in
     let e =
-    kept-block (samplesOf (xs p) (ys p)) (interleaved (drop (2 * (l .taken + p .parts-of .result)) (start t .args .samples .now))) _ (l .taken) (receiver t) (toZ w64 (l .counter))
+    kept-block (samplesOf (xs p) (ys p)) (interleaved (drop (2 * (l .taken + p .parts-of .result)) (start t .args .samples .now))) _ (l .taken) (receiver t) (l .counter .0)
     (rw n (quiet i)) (p .parts-of .ensures .1 .0) (rw (p .parts-of .ensures .1 .1 .0) at (l .inv .4)) in
     let f = rw n at e in
-    (p .parts-of .ensures .0 .2, l .inv .1, p .parts-of .ensures .1 .1 .1 .0, p .parts-of .ensures .1 .1 .1 .1, rw (c .keep-all .ensures, read (u .plus .result) (u .plus .ok), u .plus .ensures, len-reads i) f, λ z. absurd (omega (arith, i .if1 .taken, z)))
+    (p .parts-of .ensures .0 .2, l .inv .1, p .parts-of .ensures .1 .1 .1 .0, p .parts-of .ensures .1 .1 .1 .1, rw (c .keep-all .ensures, u .plus .ensures, len-reads i) f, λ z. absurd (omega (arith, i .if1 .taken, z)))
 
 mul-t32 : tie.Need-mul-t32 Inv-loop μ-loop
 mul-t32 c =
@@ -304,7 +285,7 @@ loop-again-2 c =
     let t = turn (parted r) in
     let e =
     at-next _ _ _ _ _ _ (left r) (sym (judged r) ∙ v .before .if2 .left) (after h) (rw (valid-read v) at (h .accept .ensures .1)) (h .accept .result .handed) (rw (valid-read v) at (h .accept .ensures .0)) (c .if3 .left) in
-    (one-more (parted r) .0, t .loop .inv .1, parted r .parts-of .ensures .1 .1 .1 .0, parted r .parts-of .ensures .1 .1 .1 .1, same t ∙ e ∙ ap (λ (z : ℤ). ahead (t .loop .taken + 1) (feedOf (after h) (interleaved (drop (2 * (t .loop .taken + 1)) (start t .args .samples .now))) z)) (sym (read _ (p .plus2 .ok) ∙ p .plus2 .ensures)), λ z. absurd (omega (arith, z)))
+    (one-more (parted r) .0, t .loop .inv .1, parted r .parts-of .ensures .1 .1 .1 .0, parted r .parts-of .ensures .1 .1 .1 .1, e ∙ ap (λ (z : ℤ). ahead (t .loop .taken + 1) (feedOf (after h) (interleaved (drop (2 * (t .loop .taken + 1)) (start t .args .samples .now))) z)) (sym (p .plus2 .ensures)), λ z. absurd (omega (arith, z)))
 
 returns-3 : tie.Need-returns-3 Inv-loop μ-loop
 returns-3 c =

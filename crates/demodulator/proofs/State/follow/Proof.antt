@@ -1,5 +1,4 @@
 -- `State::follow` meets its contract, by the other's mode.
-use mathlib.Core.Path.{_≡_}
 use Rattle.demodulator.specs.Receiver.{withMode, withClock}
 use Rattle.demodulator.specs.View.{modeOf, modeNumber, modeFollowing, receiverOf}
 use Rattle.demodulator.proofs.Views.{mode-search, mode-downlink}
@@ -23,7 +22,7 @@ unfolding receiverOf withMode withClock modeOf modeNumber modeFollowing
 returns-2 c =
     let a = c .before .before .before .args in
     let m = mode-downlink (a .demod .mode) (c .match .keys2) in (
-      λ re im abs re₂ im₂ abs₂. follows-lock (receiverOf (a .self) re im abs) (receiverOf (a .demod) re₂ im₂ abs₂) (modeOf (a .demod .mode)) (c .before .slot-when .result) m (c .before .slot-when .ensures),
+      λ re im abs re₂ im₂ abs₂. follows-lock (receiverOf (a .self) re im abs) (receiverOf (a .demod) re₂ im₂ abs₂) (modeOf (a .demod .mode)) (c .before .slot-when .result .0) m (c .before .slot-when .ensures),
       rw m,
     )
 

@@ -4,8 +4,6 @@ use mathlib.Core.List.{List}
 use native.Mathlib.Omega.{arith}
 use lib.ListN.{length, take, replicate, length-replicate}
 use lib.Ieee.{Float}
-use mir.Syntax.{w64}
-use mir.ValLaws.{toZ-ofZ}
 use Rattle.dsp_types.specs.declared.ComplexSample.{ComplexSample}
 use Rattle.dsp_types.specs.Samples.{zeroF}
 use Rattle.fir.specs.Fir.{lineOf, lineAfter, blockOf, outsOf, samplesOf, reOf, imOf}
@@ -144,7 +142,7 @@ returns c =
     let e =
     heard-rows (line b) (lineOf (b .block .result)) (samples b) (a .re .now) (a .im .now) (a .abs .now) _ _ _ (a .self .«past_index») _ _ _ (line-after b)
     (rw (outs-re b) at (t1 .store .ensures .1)) (rw (outs-im b) at (t2 .store2 .ensures .1)) (rw (abs-is m) at (c .store3 .ensures .1)) (i ∙ sym k) (j ∙ sym k) in
-    rw (e, toZ-ofZ w64 _ (s .fits .next))
+    rw e
 
 pub keep-all-spec : {M : Type 1} → statement M
 keep-all-spec =

@@ -6,7 +6,7 @@ use lib.ListN.{replicate}
 use Rattle.demodulator.specs.Signal.{quiet}
 use Rattle.demodulator.specs.Receiver.{new, setSlot, noSlot}
 use Rattle.demodulator.specs.View.{modeOf, receiverOf, signalFrom}
-use Rattle.demodulator.proofs.Signed.{read, within-pos}
+use Rattle.demodulator.proofs.Signed.{within-pos}
 use Rattle.demodulator.proofs.Taking.{zeros-held, zeros-samples, no-stored}
 use Rattle.demodulator.proofs.Views.{mode-stored}
 use borrow.Author.Needs.{needs}
@@ -31,7 +31,7 @@ returns c =
     let n = c .before .before .before in
     let b = no-stored (c .before .before .no-burst .ensures) in
     let m : modeOf (n .number .result) ≡ n .before .args .initial-mode = ap modeOf (n .number .ensures) ∙ mode-stored (n .before .args .initial-mode) in
-    (rw (read _ (c .ready-time .ok), c .ready-time .ensures, m, b 510 (replicate 510 0), b 254 (replicate 510 0), c .before .new .ensures, zeros-samples, zeros-held), n .number .ensures)
+    (rw (c .ready-time .ensures, m, b 510 (replicate 510 0), b 254 (replicate 510 0), c .before .new .ensures, zeros-samples, zeros-held), n .number .ensures)
 
 pub new-spec : {M : Type 1} → statement M
 new-spec =

@@ -1,18 +1,17 @@
 -- `State::process_zeros` meets its contract. The loop's invariant: the zeros left, fed from here, come to what all of them would.
-use mathlib.Core.Path.{_≡_, refl, ap, sym, _∙_}
-use mathlib.Core.Bool.{Bool, true, false, _||_}
-use Prim.Native.Nat.{ℕ, _+_, _-_, _≤_, _<_, _^_}
+use mathlib.Core.Path.{_≡_, refl, ap, _∙_}
+use mathlib.Core.Bool.{Bool, _||_}
+use Prim.Native.Nat.{ℕ, _-_, _≤_, _<_, _^_}
 use native.Mathlib.Omega.{arith}
 use lib.IntN.{pos, _-ℤ_}
 use mir.Syntax.{w64}
-use mir.Val.{toZ}
-use mir.ValLaws.{toZ-ofZ, toZ-pos}
+use mir.ValLaws.{toZ-pos}
 use Rattle.dsp_types.specs.Samples.{silence}
 use Rattle.demodulator.specs.Receiver.{Receiver, processSample, feedZeros}
 use Rattle.demodulator.specs.Windows.{handsOver, windowOf, zerosWindows}
 use Rattle.demodulator.specs.View.{receiverOf}
-use Rattle.demodulator.specs.Bounds.{Timed, Counter, Caught}
-use Rattle.demodulator.proofs.Signed.{read, read-within, within-pos, counter-within}
+use Rattle.demodulator.specs.Bounds.{Timed, Counter}
+use Rattle.demodulator.proofs.Signed.{within-pos, counter-within}
 use Rattle.demodulator.proofs.Samples.{one-zero, counter-before}
 use Rattle.demodulator.proofs.Handing.{one-zero-hands}
 use Rattle.demodulator.proofs.Steps.{sample-timed, timed-longer}
@@ -23,8 +22,8 @@ abbrev Inv-loop : tie.InvT-loop
 Inv-loop re₀ im₀ abs₀ count counter d₀ left₀ re im abs d left =
     (left ≤ count)
     × Timed (1021 - left) (receiverOf d re im abs)
-    × (feedZeros count (receiverOf d₀ re₀ im₀ abs₀) (toZ w64 counter) ≡ feedZeros left (receiverOf d re im abs) (toZ w64 counter))
-    × (handsOver (zerosWindows count (receiverOf d₀ re₀ im₀ abs₀) (toZ w64 counter)) ≡ handsOver (zerosWindows left (receiverOf d re im abs) (toZ w64 counter)))
+    × (feedZeros count (receiverOf d₀ re₀ im₀ abs₀) (counter .0) ≡ feedZeros left (receiverOf d re im abs) (counter .0))
+    × (handsOver (zerosWindows count (receiverOf d₀ re₀ im₀ abs₀) (counter .0)) ≡ handsOver (zerosWindows left (receiverOf d re im abs) (counter .0)))
 
 abbrev μ-loop : tie.MeasureT-loop
 μ-loop re₀ im₀ abs₀ count counter d₀ left₀ re im abs d left = left
@@ -51,25 +50,25 @@ cast-minus c = record { sfits = omega (arith, start (turn c) .pre .most) }
 minus-requires : tie.Need-minus-requires Inv-loop μ-loop
 minus-requires c κs =
     let p = start (turn c) .pre in
-    rw (read-within (counter-within (p .counter)), toZ-pos w64 (turn c .loop .left) (omega (arith, p .most))) (counter-within (p .counter), within-pos (2 ^ 61) (omega (arith, p .most)))
+    rw (toZ-pos w64 (turn c .loop .left) (omega (arith, p .most))) (counter-within (p .counter), within-pos (2 ^ 61) (omega (arith, p .most)))
 
 -- the counter of this zero
-under : (c : tie.After-minus Inv-loop μ-loop) → let t = turn (c .before) in c .minus .result ≡ start t .args .counter -ℤ pos (t .loop .left)
+under : (c : tie.After-minus Inv-loop μ-loop) → let t = turn (c .before) in c .minus .result .0 ≡ start t .args .counter .0 -ℤ pos (t .loop .left)
 under c =
     let t = turn (c .before) in
     let p = start t .pre in
-    rw (c .minus .ensures, read-within (counter-within (p .counter)), toZ-pos w64 (t .loop .left) (omega (arith, p .most)))
+    rw (c .minus .ensures, toZ-pos w64 (t .loop .left) (omega (arith, p .most)))
 
 -- that it is one that is not refused
-counts : (c : tie.After-minus Inv-loop μ-loop) → let t = turn (c .before) in Counter (start t .args .counter -ℤ pos (t .loop .left))
+counts : (c : tie.After-minus Inv-loop μ-loop) → let t = turn (c .before) in Counter (start t .args .counter .0 -ℤ pos (t .loop .left))
 counts c =
     let t = turn (c .before) in
-    counter-before (start t .args .counter) (t .loop .left) (omega (arith, start t .pre .above-zero)) (start t .pre .counter)
+    counter-before (start t .args .counter .0) (t .loop .left) (omega (arith, start t .pre .above-zero)) (start t .pre .counter)
 
 process-sample-requires : tie.Need-process-sample-requires Inv-loop μ-loop
 process-sample-requires c κs =
     let t = turn (c .before) in
-    rw (read _ (c .minus .ok), under c) (timed-longer 2000 (omega arith) (t .loop .inv .1), counts c)
+    rw (under c) (timed-longer 2000 (omega arith) (t .loop .inv .1), counts c)
 
 -- the receiver after this zero
 abbrev after : tie.After-process-sample Inv-loop μ-loop → Receiver
@@ -85,11 +84,11 @@ module _ (c : tie.After-process-sample Inv-loop μ-loop) where
   taken : 0 < now .loop .left
   taken = c .before .before .before .before .before .loop-test .taken
 
-  after-is : after c ≡ processSample (receiver now) silence (start now .args .counter -ℤ pos (now .loop .left))
-  after-is = c .process-sample .ensures .1 ∙ ap (processSample (receiver now) silence) (read _ (c .before .minus .ok) ∙ under (c .before))
+  after-is : after c ≡ processSample (receiver now) silence (start now .args .counter .0 -ℤ pos (now .loop .left))
+  after-is = c .process-sample .ensures .1 ∙ ap (processSample (receiver now) silence) (under (c .before))
 
-  hands-is : c .process-sample .result .handed ≡ handsOver (windowOf (receiver now) silence (start now .args .counter -ℤ pos (now .loop .left)))
-  hands-is = c .process-sample .ensures .0 ∙ ap (λ z. handsOver (windowOf (receiver now) silence z)) (read _ (c .before .minus .ok) ∙ under (c .before))
+  hands-is : c .process-sample .result .handed ≡ handsOver (windowOf (receiver now) silence (start now .args .counter .0 -ℤ pos (now .loop .left)))
+  hands-is = c .process-sample .ensures .0 ∙ ap (λ z. handsOver (windowOf (receiver now) silence z)) (under (c .before))
 
   few : now .loop .left ≤ start now .args .count
   few = now .loop .inv .0
@@ -97,18 +96,16 @@ module _ (c : tie.After-process-sample Inv-loop μ-loop) where
   timed : Timed (1021 - rest) (after c)
   timed =
       rw after-is
-      (timed-longer (1021 - rest) (omega (arith, taken, few, start now .pre .most)) (sample-timed (1021 - now .loop .left) (receiver now) silence (start now .args .counter -ℤ pos (now .loop .left)) (omega arith) (now .loop .inv .1) (counts (c .before))))
+      (timed-longer (1021 - rest) (omega (arith, taken, few, start now .pre .most)) (sample-timed (1021 - now .loop .left) (receiver now) silence (start now .args .counter .0 -ℤ pos (now .loop .left)) (omega arith) (now .loop .inv .1) (counts (c .before))))
 
-  fed : feedZeros (start now .args .count) (given now) (start now .args .counter) ≡ feedZeros rest (after c) (start now .args .counter)
+  fed : feedZeros (start now .args .count) (given now) (start now .args .counter .0) ≡ feedZeros rest (after c) (start now .args .counter .0)
   fed =
-      let z = toZ-ofZ w64 (start now .args .counter) (start now .fits .counter) in
-      (rw z at (now .loop .inv .2)) ∙ one-zero (now .loop .left) (receiver now) (start now .args .counter) taken ∙ rw after-is
+      now .loop .inv .2 ∙ one-zero (now .loop .left) (receiver now) (start now .args .counter .0) taken ∙ rw after-is
 
-  handing : handsOver (zerosWindows (start now .args .count) (given now) (start now .args .counter))
-      ≡ (c .process-sample .result .handed || handsOver (zerosWindows rest (after c) (start now .args .counter)))
+  handing : handsOver (zerosWindows (start now .args .count) (given now) (start now .args .counter .0))
+      ≡ (c .process-sample .result .handed || handsOver (zerosWindows rest (after c) (start now .args .counter .0)))
   handing =
-      let z = toZ-ofZ w64 (start now .args .counter) (start now .fits .counter) in
-      (rw z at (now .loop .inv .3)) ∙ one-zero-hands (now .loop .left) (receiver now) (start now .args .counter) taken ∙ rw (after-is, hands-is)
+      now .loop .inv .3 ∙ one-zero-hands (now .loop .left) (receiver now) (start now .args .counter .0) taken ∙ rw (after-is, hands-is)
 
 sub-left : tie.Need-sub-left Inv-loop μ-loop
 sub-left c = omega (arith, taken (c .before))
@@ -121,7 +118,7 @@ returns c =
       all = λ e. absurd (let z : _≡_ {A = ℕ} 0 1 = cc in omega arith);
       timed = timed p;
       receiver = fed p;
-      windows = handing p ∙ ap (λ (b : Bool). b || handsOver (zerosWindows (rest p) (after p) (start (now p) .args .counter))) (c .if1 .taken);
+      windows = handing p ∙ ap (λ (b : Bool). b || handsOver (zerosWindows (rest p) (after p) (start (now p) .args .counter .0))) (c .if1 .taken);
     }
 
 loop-less : tie.Need-loop-less Inv-loop μ-loop
@@ -130,26 +127,22 @@ loop-less c = omega (arith, taken (c .before .before))
 loop-again : tie.Need-loop-again Inv-loop μ-loop
 loop-again c =
     let p = c .before .before in
-    let s = start (now p) in
-    let z = toZ-ofZ w64 (s .args .counter) (s .fits .counter) in (
+    let s = start (now p) in (
       omega (arith, few p),
       timed p,
-      rw z (fed p),
-      rw z (handing p ∙ ap (λ (b : Bool). b || handsOver (zerosWindows (rest p) (after p) (s .args .counter))) (c .if1 .left)),
+      fed p,
+      handing p ∙ ap (λ (b : Bool). b || handsOver (zerosWindows (rest p) (after p) (s .args .counter .0))) (c .if1 .left),
     )
 
 returns-2 : tie.Need-returns-2 Inv-loop μ-loop
 returns-2 c =
-    let t = c .before in
-    let l = t .loop in
-    let s = start t in
-    let z = toZ-ofZ w64 (s .args .counter) (s .fits .counter) in
+    let i = c .before .loop .inv in
     record {
       less = λ h. omega arith;
       all = λ e. omega arith;
-      timed = l .inv .1;
-      receiver = rw z at (l .inv .2);
-      windows = rw z at (l .inv .3);
+      timed = i .1;
+      receiver = i .2;
+      windows = i .3;
     }
 
 pub process-zeros-spec : {M : Type 1} → statement M

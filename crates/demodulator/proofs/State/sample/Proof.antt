@@ -4,15 +4,12 @@ use mathlib.Core.List.{[]}
 use Prim.Native.Nat.{ℕ, _^_}
 use native.Mathlib.Omega.{arith}
 use lib.Dec.{lit≤}
-use lib.IntN.{ℤ, pos, _+ℤ_}
-use mir.Syntax.{w64}
-use mir.Val.{toZ, ofZ, SFits}
-use mir.ValLaws.{toZ-ofZ}
+use lib.IntN.{ℤ}
 use Rattle.demodulator.specs.Receiver.{Receiver, withClock, withLock, withNext, listen}
 use Rattle.demodulator.specs.Valid.{validCount, valid}
 use Rattle.demodulator.specs.Calls.{Outcome, sampleRefusal, sampled, sampleOutcome, replyOf}
 use Rattle.demodulator.specs.View.{receiverOf}
-use Rattle.demodulator.proofs.Signed.{read, within-pos, counter-within}
+use Rattle.demodulator.proofs.Signed.{within-pos, counter-within}
 use Rattle.demodulator.proofs.Doors.{valid-timed, valid-next, Heard, not-refused}
 use Rattle.demodulator.proofs.Outcomes.{kept, sample-refused, sample-accepted}
 use Rattle.demodulator.proofs.Keeping.{kept-one}
@@ -21,7 +18,7 @@ use Rattle.demodulator.proofs.State.sample.Statement.{statement}
 use Rattle.demodulator.proofs.State.sample.Tie as tie
 
 abbrev start : tie.After-sample-refusal → tie.Start
-start c = c .before .before .before .before
+start c = c .before .before
 
 abbrev receiver : tie.Start → Receiver
 receiver s = receiverOf (s .args .self) (s .args .re .now) (s .args .im .now) (s .args .abs .now)
@@ -29,29 +26,13 @@ receiver s = receiverOf (s .args .self) (s .args .re .now) (s .args .im .now) (s
 abbrev outcome : tie.Start → Outcome
 outcome s = sampleOutcome (receiver s) (s .args .input) (s .args .sample-counter .0)
 
--- the counters, told where nothing else is known yet
-count-fits : (c : tie.After-struct-told2) → SFits w64 (c .before .before .args .sample-counter .0)
-count-fits c = search needs
-
-next-fits : (c : tie.After-struct-told2) → SFits w64 (c .before .before .args .self .«next_input_sample_count» .0)
-next-fits c = search needs
-
--- the counter as it is read
-counted : (c : tie.After-sample-refusal) → toZ w64 (ofZ w64 (start c .args .sample-counter .0)) ≡ start c .args .sample-counter .0
-counted c = toZ-ofZ w64 _ (count-fits (c .before .before))
-
 -- the refusal is that of the state as it is read
 judged : (c : tie.After-sample-refusal) → let s = start c in
     c .sample-refusal .result ≡ sampleRefusal (validCount (receiver s .next)) (s .args .input) (s .args .sample-counter .0)
 unfolding receiverOf
 judged c =
-    let v = c .before in
-    let n : toZ w64 (ofZ w64 (v .valid-count .result)) ≡ validCount (start c .args .self .«next_input_sample_count» .0) =
-    read _ (v .valid-count .ok) ∙ v .valid-count .ensures ∙ ap validCount (toZ-ofZ w64 _ (next-fits (v .before))) in
     let a = start c .args in
-    c .sample-refusal .ensures
-    ∙ ap (λ (z : ℤ). sampleRefusal z (a .input) (toZ w64 (ofZ w64 (a .sample-counter .0)))) n
-    ∙ ap (sampleRefusal (validCount (receiver (start c) .next)) (a .input)) (counted c)
+    c .sample-refusal .ensures ∙ ap (λ (z : ℤ). sampleRefusal z (a .input) (a .sample-counter .0)) (c .before .valid-count .ensures)
 
 accepted : (c : tie.Else1) → let s = start (c .before) in sampleRefusal (validCount (receiver s .next)) (s .args .input) (s .args .sample-counter .0) ≡ 0
 accepted c = sym (judged (c .before)) ∙ c .if1 .left
@@ -82,7 +63,7 @@ quiet-samples-requires : tie.Need-quiet-samples-requires
 quiet-samples-requires c κs = search needs
 
 plus-requires : tie.Need-plus-requires
-plus-requires c κs = rw (counted (c .before .before .before)) (counter-within (heard (c .before .before) .counter), within-pos (2 ^ 61) (lit≤ tt))
+plus-requires c κs = (counter-within (heard (c .before .before) .counter), within-pos (2 ^ 61) (lit≤ tt))
 
 listen-requires : tie.Need-listen-requires
 listen-requires c κs = search needs
@@ -95,13 +76,11 @@ returns-2 c =
     let k = i .before .before in
     let s = start (k .before) in
     let a = s .args in
-    let n = toZ w64 (ofZ w64 (u .plus .result)) in
-    let m : n ≡ a .sample-counter .0 +ℤ pos 1 = read _ (u .plus .ok) ∙ u .plus .ensures ∙ ap (λ z. z +ℤ pos 1) (counted (k .before)) in
-    let q = rw (counted (k .before)) at (i .before .quiet-samples .ensures (i .if2 .taken)) in (
+    let q = i .before .quiet-samples .ensures (i .if2 .taken) in (
       sym (ap (λ (o : Outcome). o .reply) (goes k)),
       (
-        ap (λ (r : Receiver). withNext r n) (c .listen .ensures)
-            ∙ ap (withNext (listen (receiver s) (a .input))) m
+        ap (λ (r : Receiver). withNext r (u .plus .result .0)) (c .listen .ensures)
+            ∙ ap (withNext (listen (receiver s) (a .input))) (u .plus .ensures)
             ∙ kept-one (receiver s) (a .sample-counter .0) _ (i .if2 .taken) q (a .input)
             ∙ sym (ap (λ (o : Outcome). o .receiver) (goes k)),
         λ n h. absurd (let z : _≡_ {A = ℕ} 0 1 = cc in omega arith),
@@ -125,7 +104,7 @@ accept-requires c κs =
     let k = v .before .before .before in
     let s = start (k .before) in
     let n = valid-next (receiver s .next) in
-    rw (valid-read v, counted (k .before)) (record { timed = valid-timed (receiver s); counter = heard k .counter; next = n .within; low = n .low; later = heard k .later })
+    rw (valid-read v) (record { timed = valid-timed (receiver s); counter = heard k .counter; next = n .within; low = n .low; later = heard k .later })
 
 returns-3 : tie.Need-returns-3
 unfolding replyOf sampled
@@ -135,7 +114,7 @@ returns-3 c =
     let k = v .before .before .before in (
       sym (ap (λ (o : Outcome). o .reply) (goes k)),
       (
-        (rw (valid-read v, counted (k .before)) at (a .accept .ensures .1)) ∙ sym (ap (λ (o : Outcome). o .receiver) (goes k)),
+        (rw (valid-read v) at (a .accept .ensures .1)) ∙ sym (ap (λ (o : Outcome). o .receiver) (goes k)),
         λ n h. absurd (let z : _≡_ {A = ℕ} 0 1 = cc in omega arith),
       ),
     )

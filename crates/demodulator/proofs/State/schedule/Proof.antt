@@ -3,13 +3,11 @@ use mathlib.Core.Path.{_≡_, ap, _∙_}
 use mathlib.Core.List.{[]}
 use Prim.Native.Nat.{_^_}
 use lib.Dec.{lit≤}
-use mir.Syntax.{w64}
-use mir.Val.{toZ, ofZ}
 use Rattle.demodulator.specs.declared.Mode.{Mode}
 use Rattle.demodulator.specs.declared.Mode.the-variants.{Idle, DlUnsynchronized, Dl, Ul}
 use Rattle.demodulator.specs.Receiver.{Receiver, withClock, searchOn, nextSlot, schedule}
 use Rattle.demodulator.specs.View.{receiverOf}
-use Rattle.demodulator.proofs.Signed.{read, read-within, wider, within-pos}
+use Rattle.demodulator.proofs.Signed.{wider, within-pos}
 use Rattle.demodulator.proofs.Times.{tracked-timed, later-on}
 use Rattle.demodulator.proofs.Views.{mode-idle, mode-search, mode-downlink, mode-uplink, searched-on}
 use borrow.Author.Needs.{needs}
@@ -21,9 +19,7 @@ by-mode r m e = rw e
 
 plus-requires : tie.Need-plus-requires
 unfolding receiverOf
-plus-requires c κs =
-    let h = wider (2 ^ 61) (lit≤ tt) (c .before .before .pre .ready) in
-    rw (read-within h) (h, within-pos (2 ^ 61) (lit≤ tt))
+plus-requires c κs = (wider (2 ^ 61) (lit≤ tt) (c .before .pre .ready), within-pos (2 ^ 61) (lit≤ tt))
 
 track-requires : tie.Need-track-requires
 track-requires c κs = search needs
@@ -38,10 +34,9 @@ add-slots-requires-2 c κs = search needs
 returns : tie.Need-returns
 unfolding receiverOf schedule withClock searchOn
 returns c = λ re im abs.
-    let s = c .before .before .before .args .self in
-    let h = wider (2 ^ 61) (lit≤ tt) (c .before .before .before .pre .ready) in
-    searched-on (receiverOf s re im abs) (toZ w64 (ofZ w64 (c .plus .result))) (rw (read _ (c .plus .ok), c .plus .ensures, read-within h))
-    ∙ by-mode (receiverOf s re im abs) DlUnsynchronized (mode-search (s .mode) (c .before .before .match .keys1))
+    let s = c .before .before .args .self in
+    searched-on (receiverOf s re im abs) (c .plus .result .0) (c .plus .ensures)
+    ∙ by-mode (receiverOf s re im abs) DlUnsynchronized (mode-search (s .mode) (c .before .match .keys1))
 
 returns-2 : tie.Need-returns-2
 unfolding receiverOf schedule nextSlot

@@ -1,22 +1,19 @@
 -- `State::search_window` meets its contract: a find's place is even and at most 256, so that its time is the definition's.
 use mathlib.Core.Path.{_≡_, ap, _∙_}
-use Prim.Native.Nat.{_≤_, _^_, _*_}
+use Prim.Native.Nat.{_≤_, _^_}
 use native.Mathlib.Omega.{arith}
 use lib.Dec.{lit≤, lit<}
 use lib.ListN.{take, length}
 use lib.Seq.{take-all}
-use lib.IntN.{pos, _+ℤ_, _-ℤ_}
 use Rattle.burst_finder.specs.Search.{findSync, below}
 use Rattle.demodulator.specs.declared.State.{State}
 use Rattle.demodulator.specs.declared.window.Window.{Window}
 use Rattle.demodulator.specs.Receiver.{Receiver, withMode, withClock, withLock, withSlot, setSlot}
 use Rattle.demodulator.specs.View.{receiverOf, modeOf, Reads, IsWindow}
 use Rattle.demodulator.specs.declared.Mode.the-variants.{Dl}
-use Rattle.demodulator.proofs.Signed.{read, read-within, wider}
+use Rattle.demodulator.proofs.Signed.{wider}
 use Rattle.demodulator.proofs.Times.{found-within}
 use Rattle.demodulator.proofs.Views.{heard, mode-search, found-place, search-missed, search-found}
-use mir.Syntax.{w64}
-use mir.Val.{toZ, ofZ}
 use borrow.Author.Needs.{needs}
 use Rattle.demodulator.proofs.State.search_window.Statement.{statement}
 use Rattle.demodulator.proofs.State.search_window.Tie as tie
@@ -45,14 +42,6 @@ searched c =
 place : (c : tie.After-find-sync) → c .find-sync .result .dist ≤ 1 → c .find-sync .result .pos ≤ 256
 place c = found-place (receiver c) (window c) (window-read c) (c .find-sync .result) (searched c)
 
--- the reference time
-begins : (c : tie.After-found-time) → let a = c .before .before .before .before in
-    toZ w64 (ofZ w64 (c .found-time .result)) ≡ self a .«slot_ready_time» .0 -ℤ pos 2034 +ℤ pos (a .find-sync .result .pos * 2)
-unfolding receiverOf
-begins c =
-    let a = c .before .before .before .before in
-    rw (read _ (c .found-time .ok), c .found-time .ensures, read-within (wider (2 ^ 61) (lit≤ tt) (start a .pre .0 .ready)))
-
 read-window-requires : tie.Need-read-window-requires
 read-window-requires c κs = IsWindow.full
 
@@ -76,9 +65,8 @@ returns c =
 found-time-requires : tie.Need-found-time-requires
 unfolding receiverOf
 found-time-requires c κs =
-    let a = c .before .before .before in
-    let h = start a .pre .0 .ready in
-    rw (read-within (wider (2 ^ 61) (lit≤ tt) h)) (h, place a (c .before .if1 .left))
+    let a = c .before .before in
+    (start a .pre .0 .ready, place a (c .if1 .left))
 
 emptied-requires-2 : tie.Need-emptied-requires-2
 emptied-requires-2 c κs = search needs
@@ -90,20 +78,20 @@ set-slot-requires : tie.Need-set-slot-requires
 unfolding receiverOf
 set-slot-requires c κs =
     let f = c .before .before in
-    let a = f .before .before .before .before in
-    rw (begins f) (wider (2 ^ 40) (lit≤ tt) (found-within (self a .«slot_ready_time» .0) (a .find-sync .result .pos) (start a .pre .0 .ready) (place a (f .before .before .if1 .left))), lit< tt)
+    let a = f .before .before .before in
+    rw (f .found-time .ensures) (wider (2 ^ 40) (lit≤ tt) (found-within (self a .«slot_ready_time» .0) (a .find-sync .result .pos) (start a .pre .0 .ready) (place a (f .before .if1 .left))), lit< tt)
 
 returns-2 : tie.Need-returns-2
 unfolding receiverOf withMode withClock withLock withSlot modeOf
 returns-2 c =
     let f = c .before .before .before in
-    let a = f .before .before .before .before in
+    let a = f .before .before .before in
     let s = start a .args in
     let e = c .before .averaged .result in
-    let z = toZ w64 (ofZ w64 (f .found-time .result)) in
+    let z = f .found-time .result .0 in
     ap (λ (r : Receiver). withMode r Dl) (c .set-slot .ensures (s .re .now) (s .im .now) (s .abs .now))
     ∙ ap (λ (r : Receiver). withMode (withClock (withLock r (record { timingError = e; misses = 0 })) (setSlot (r .mode) z 283115519)) Dl) (c .before .before .emptied2 .ensures (s .re .now) (s .im .now) (s .abs .now))
-    ∙ search-found (receiver a) (window a) (window-read a) (a .find-sync .result) (searched a) (modeOf (self a .mode)) z e (f .before .before .if1 .left) (mode-search (self a .mode) (start a .pre .1)) (begins f) (c .before .averaged .ensures)
+    ∙ search-found (receiver a) (window a) (window-read a) (a .find-sync .result) (searched a) (modeOf (self a .mode)) z e (f .before .if1 .left) (mode-search (self a .mode) (start a .pre .1)) (f .found-time .ensures) (c .before .averaged .ensures)
 
 pub search-window-spec : {M : Type 1} → statement M
 search-window-spec =

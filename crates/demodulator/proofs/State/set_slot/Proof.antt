@@ -1,9 +1,6 @@
 -- `State::set_slot` meets its contract: the ready time is what `ready_time` says, and all else stays.
-use Prim.Native.Nat.{_^_}
-use lib.Dec.{lit≤}
 use Rattle.demodulator.specs.Receiver.{withClock, setSlot}
 use Rattle.demodulator.specs.View.{receiverOf}
-use Rattle.demodulator.proofs.Signed.{read, read-within, wider}
 use borrow.Author.Needs.{needs}
 use Rattle.demodulator.proofs.State.set_slot.Statement.{statement}
 use Rattle.demodulator.proofs.State.set_slot.Tie as tie
@@ -16,8 +13,7 @@ ready-time-requires c κs = search needs
 
 returns : tie.Need-returns
 unfolding receiverOf withClock setSlot
-returns c = λ re im abs.
-    rw (read _ (c .ready-time .ok), c .ready-time .ensures, read-within (wider (2 ^ 61) (lit≤ tt) (c .before .before .pre .0)))
+returns c = λ re im abs. rw (c .ready-time .ensures)
 
 pub set-slot-spec : {M : Type 1} → statement M
 set-slot-spec = tie.close (tie.spec ready-time-requires returns)

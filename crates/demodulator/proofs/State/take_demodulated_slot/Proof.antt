@@ -9,7 +9,7 @@ use lib.Ieee.{Float}
 use Rattle.dsp_types.specs.Refusals.{wrongLength}
 use Rattle.demodulator.specs.declared.RxBurst.{RxBurst}
 use Rattle.demodulator.specs.declared.take.TakeAnswer.the-variants as TakeAnswer
-use Rattle.demodulator.specs.Receiver.{BurstView, HandedSlot, Receiver, withWaits}
+use Rattle.demodulator.specs.Receiver.{BurstView, HandedSlot, withWaits}
 use Rattle.demodulator.specs.Valid.{validView, validSlot}
 use Rattle.demodulator.specs.Calls.{Outcome, took, takeRefusal, padded, taken, takeOutcome, burstShown, takeReplyOf, inNumbers}
 use Rattle.demodulator.specs.View.{storedView, receiverOf}

@@ -5,13 +5,11 @@ use mathlib.Core.List.{List, []}
 use Prim.Native.Nat.{_^_}
 use lib.Dec.{lit≤}
 use lib.Ieee.{Float}
-use mir.Syntax.{w64}
-use mir.Val.{toZ, ofZ}
 use Rattle.timing.specs.Tracking.{late, early}
 use Rattle.demodulator.specs.declared.State.{State}
 use Rattle.demodulator.specs.Receiver.{Receiver, withClock, withLock, trackedLater, trackedSooner}
 use Rattle.demodulator.specs.View.{receiverOf}
-use Rattle.demodulator.proofs.Signed.{read, read-within, wider}
+use Rattle.demodulator.proofs.Signed.{wider, within-pos}
 use Rattle.demodulator.specs.Bounds.{Within}
 use Rattle.demodulator.proofs.Times.{later-within}
 use Rattle.demodulator.proofs.Views.{shifted-later, not-later, shifted-sooner, not-sooner}
@@ -23,9 +21,8 @@ after-first : (c : tie.Joined1) (re im abs : List Float) → receiverOf (c .if1 
 unfolding receiverOf late withClock withLock
 after-first c re im abs =
     let s = c .before .before .args .self in
-    let h = wider (2 ^ 61) (lit≤ tt) (c .before .before .pre .reference) in
     ⊎-elim
-    (λ w. ap (λ (x : State). receiverOf x re im abs) (w .4) ∙ shifted-later (receiverOf s re im abs) _ (w .0 .taken) (rw (read _ (w .2 .ok), w .2 .ensures, read-within h)))
+    (λ w. ap (λ (x : State). receiverOf x re im abs) (w .3) ∙ shifted-later (receiverOf s re im abs) _ (w .0 .taken) (w .1 .ensures))
     (λ w. ap (λ (x : State). receiverOf x re im abs) (w .1) ∙ not-later (receiverOf s re im abs) (w .0 .left))
     (c .if1 .came)
 
@@ -38,20 +35,16 @@ reference-within c =
 
 plus-requires : tie.Need-plus-requires
 unfolding receiverOf
-plus-requires c κs =
-    let h = wider (2 ^ 61) (lit≤ tt) (c .before .before .before .pre .reference) in
-    rw (read-within h) (h, record { high = lit≤ tt; low = lit≤ tt })
+plus-requires c κs = (wider (2 ^ 61) (lit≤ tt) (c .before .before .pre .reference), within-pos (2 ^ 61) (lit≤ tt))
 
 minus-requires : tie.Need-minus-requires
-minus-requires c κs =
-    let h = reference-within (c .before .before .before) in
-    rw (read-within h) (h, record { high = lit≤ tt; low = lit≤ tt })
+minus-requires c κs = (reference-within (c .before .before), within-pos (2 ^ 61) (lit≤ tt))
 
 returns : tie.Need-returns
 unfolding receiverOf early withClock withLock
 returns c = λ re im abs.
-    let j = c .before .before .before .before .before in
-    shifted-sooner (receiverOf (j .if1 .d) re im abs) (toZ w64 (ofZ w64 (c .before .minus .result))) (c .before .before .before .if2 .taken) (rw (read _ (c .before .minus .ok), c .before .minus .ensures, read-within (reference-within j)))
+    let j = c .before .before .before .before in
+    shifted-sooner (receiverOf (j .if1 .d) re im abs) (c .before .minus .result .0) (c .before .before .if2 .taken) (c .before .minus .ensures)
     ∙ ap trackedSooner (after-first j re im abs)
 
 returns-2 : tie.Need-returns-2

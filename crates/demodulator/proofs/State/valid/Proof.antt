@@ -1,25 +1,10 @@
 -- `State::valid` meets its contract: each number by its own function.
-use mathlib.Core.Path.{_∙_}
 use Rattle.demodulator.specs.Receiver.{withClock, withLock, withNext}
 use Rattle.demodulator.specs.View.{receiverOf}
-use mir.Syntax.{w64}
-use mir.Val.{SFits}
-use mir.ValLaws.{toZ-ofZ}
 use Rattle.demodulator.proofs.Doors.{valid-as}
-use Rattle.demodulator.proofs.Signed.{read}
 use borrow.Author.Needs.{needs}
 use Rattle.demodulator.proofs.State.valid.Statement.{statement}
 use Rattle.demodulator.proofs.State.valid.Tie as tie
-
--- what the struct's times are, told where nothing else is known yet
-reference-fits : (c : tie.After-struct-told) → SFits w64 (c .before .args .self .«reference_time» .0)
-reference-fits c = search needs
-
-ready-fits : (c : tie.After-struct-told) → SFits w64 (c .before .args .self .«slot_ready_time» .0)
-ready-fits c = search needs
-
-next-fits : (c : tie.After-struct-told) → SFits w64 (c .before .args .self .«next_input_sample_count» .0)
-next-fits c = search needs
 
 valid-time-requires : tie.Need-valid-time-requires
 valid-time-requires c κs = search needs
@@ -39,16 +24,12 @@ at-most-100-requires c κs = search needs
 returns : tie.Need-returns
 unfolding receiverOf withClock withLock withNext
 returns c =
-    let r0 = c .before .before .before .before .before .before in
-    let r1 = c .before .before .before .before in
-    let r2 = c .before .before in
-    let early = r0 .before in
-    let s = early .before .args .self in
+    let n = c .before .before in
     λ re im abs.
-    valid-as (receiverOf s re im abs) _ _ _ _ _
-    (read _ (r0 .valid-time .ok) ∙ rw (toZ-ofZ w64 (s .«reference_time» .0) (reference-fits early)) at (r0 .valid-time .ensures))
-    (read _ (r1 .valid-time2 .ok) ∙ rw (toZ-ofZ w64 (s .«slot_ready_time» .0) (ready-fits early)) at (r1 .valid-time2 .ensures))
-    (read _ (r2 .valid-count .ok) ∙ rw (toZ-ofZ w64 (s .«next_input_sample_count» .0) (next-fits early)) at (r2 .valid-count .ensures))
+    valid-as (receiverOf (n .before .before .before .args .self) re im abs) _ _ _ _ _
+    (n .before .before .valid-time .ensures)
+    (n .before .valid-time2 .ensures)
+    (n .valid-count .ensures)
     (c .before .to-int .ensures)
     (c .at-most-100 .ensures)
 

@@ -1,49 +1,51 @@
 -- `clock::slots_to_skip` meets its contract: so far from the ready time, the slots are fewer than 2^31.
-use mathlib.Core.Path.{_≡_}
+use mathlib.Core.Path.{_≡_, _∙_}
 use Prim.Native.Nat.{_^_}
 use lib.Dec.{lit≤}
-use lib.IntN.{negℤ}
+use lib.IntN.{pos, negℤ, _-ℤ_}
 use Rattle.dsp_types.specs.Times.{divEuclid}
-use mir.Syntax.{w32}
+use mir.Syntax.{w32, w64}
+use mir.Val.{toZ, ofZ}
 use mir.ValLaws.{toZ-ofZ}
+use Rattle.demodulator.specs.Bounds.{Within}
 use Rattle.demodulator.specs.Receiver.{slotsToSkip}
-use Rattle.demodulator.proofs.Signed.{read, read-within, wider, within-pos, from-zero, quotient-within, skipped-fits, negated-within}
+use Rattle.demodulator.proofs.Signed.{read, read-within, wider, from-zero, negated-fits, negated-within, quotient-within, skipped-fits}
 use borrow.Author.Needs.{needs}
 use Rattle.demodulator.proofs.clock.slots_to_skip.Statement.{statement}
 use Rattle.demodulator.proofs.clock.slots_to_skip.Tie as tie
-use Rattle.demodulator.proofs.clock.slots_to_skip.Reads as reads
-use Rattle.demodulator.proofs.clock.slots_to_skip.Lts as lts
-use Rattle.demodulator.proofs.sums.minus.Reads as minus-reads
-use Rattle.dsp_types.proofs.div_euclid.Reads as div-euclid-reads
 
-skips : (c : tie.After-minus2) → c .minus2 .result ≡ slotsToSkip (c .before .before .before .args .t)
+within : (s : tie.Start) → Within (2 ^ 61) (s .args .t)
+within s = wider (2 ^ 61) (lit≤ tt) (s .pre)
+
+quotient : (c : tie.After-div-euclid) → c .div-euclid .result ≡ divEuclid (negℤ (c .before .args .t)) 1020
+quotient c =
+    let h = within (c .before) in
+    rw (c .div-euclid .ensures, read-within h, toZ-ofZ w64 _ (negated-fits _ h), from-zero)
+
+few : (s : tie.Start) → Within (2 ^ 61) (divEuclid (negℤ (s .args .t)) 1020)
+few s = wider (2 ^ 61) (lit≤ tt) (quotient-within _ (negated-within _ (s .pre)))
+
+skips : (c : tie.After-div-euclid) → toZ w64 (ofZ w64 (pos 0 -ℤ toZ w64 (ofZ w64 (c .div-euclid .result)))) ≡ slotsToSkip (c .before .args .t)
 unfolding slotsToSkip
 skips c =
-    let h = c .before .before .before .pre in
-    rw (c .minus2 .ensures, read _ (c .before .div-euclid .ok), c .before .div-euclid .ensures, read _ (c .before .before .minus .ok), c .before .before .minus .ensures, read-within (wider (2 ^ 61) (lit≤ tt) h), from-zero) (from-zero (divEuclid (negℤ (c .before .before .before .args .t)) 1020))
+    let z = divEuclid (negℤ (c .before .args .t)) 1020 in
+    rw (read (c .div-euclid .result) (c .div-euclid .ok), quotient c) (toZ-ofZ w64 (pos 0 -ℤ z) (negated-fits z (few (c .before))) ∙ from-zero z)
 
-minus-requires : tie.Need-minus-requires
-minus-requires c κs =
-    let h = wider (2 ^ 61) (lit≤ tt) (c .pre) in
-    rw (read-within h) (within-pos (2 ^ 61) (lit≤ tt), h)
+sub-div-euclid : tie.Need-sub-div-euclid
+sub-div-euclid c = rw (read-within (within c)) (negated-fits _ (within c))
 
 div-euclid-requires : tie.Need-div-euclid-requires
 div-euclid-requires c κs = search needs
 
-minus-requires-2 : tie.Need-minus-requires-2
-minus-requires-2 c κs =
-    let h = c .before .before .pre in
-    rw (read _ (c .div-euclid .ok), c .div-euclid .ensures, read _ (c .before .minus .ok), c .before .minus .ensures, read-within (wider (2 ^ 61) (lit≤ tt) h), from-zero)
-    (within-pos (2 ^ 61) (lit≤ tt), wider (2 ^ 61) (lit≤ tt) (quotient-within _ (negated-within _ h)))
+sub-result : tie.Need-sub-result
+sub-result c = rw (read _ (c .div-euclid .ok), quotient c) (negated-fits _ (few (c .before)))
 
 cast-result : tie.Need-cast-result
-cast-result c = rw (read _ (c .minus2 .ok), skips c) (skipped-fits _ (c .before .before .before .pre))
+cast-result c = rw (skips c) (skipped-fits _ (c .before .pre))
 
 returns : tie.Need-returns
-returns c =
-    let t = c .before .before .before .args .t in
-    rw (read _ (c .minus2 .ok), skips c) (toZ-ofZ w32 (slotsToSkip t) (skipped-fits t (c .before .before .before .pre)))
+returns c = rw (skips c) (toZ-ofZ w32 _ (skipped-fits _ (c .before .pre)))
 
 pub slots-to-skip-spec : {M : Type 1} → statement M
 slots-to-skip-spec =
-    tie.close (tie.spec minus-requires div-euclid-requires minus-requires-2 cast-result returns)
+    tie.close (tie.spec sub-div-euclid div-euclid-requires sub-result cast-result returns)

@@ -1,9 +1,6 @@
 -- `process::sample_refusal` meets its contract: the tests in the order of the numbers.
 use mathlib.Core.Path.{_≡_, sym, _∙_}
-use mathlib.Core.Bool.{true, false, _||_}
-use lib.Signed.{ltZ}
-use mir.Syntax.{w64}
-use mir.ValLaws.{toZ-ofZ}
+use mathlib.Core.Bool.{_||_}
 use Rattle.dsp_types.specs.Refusals.{beyond, outOfCount}
 use Rattle.demodulator.specs.Calls.{sampleRefusal}
 use Rattle.demodulator.proofs.Samples.{out-of-count}
@@ -13,15 +10,15 @@ use Rattle.demodulator.proofs.process.sample_refusal.Tie as tie
 use Rattle.demodulator.proofs.process.sample_refusal.Reads as reads
 use Rattle.demodulator.proofs.process.sample_refusal.Lts as lts
 use Rattle.demodulator.proofs.process.is_beyond.Reads as is-beyond-reads
-use Rattle.demodulator.proofs.sums.is_below.Reads as is-below-reads
+use Rattle.demodulator.proofs.sums.is_before.Reads as is-before-reads
 
 beyonds : (c : tie.After-is-beyond2) → (c .before .is-beyond .result || c .is-beyond2 .result) ≡ (beyond (c .before .before .args .input .re) || beyond (c .before .before .args .input .im))
 beyonds c = rw (c .before .is-beyond .ensures, c .is-beyond2 .ensures)
 
-counts : (c : tie.After-is-below2) → (c .before .is-below .result || c .is-below2 .result) ≡ outOfCount (c .before .before .before .before .before .args .counter)
+counts : (c : tie.After-is-before2) → (c .before .is-before .result || c .is-before2 .result) ≡ outOfCount (c .before .before .before .before .before .args .counter .0)
 counts c =
     let s = c .before .before .before .before .before in
-    rw (c .before .is-below .ensures, c .is-below2 .ensures, toZ-ofZ w64 _ (s .fits .counter)) (out-of-count (s .args .counter))
+    rw (c .before .is-before .ensures, c .is-before2 .ensures) (out-of-count (s .args .counter .0))
 
 is-beyond-requires : tie.Need-is-beyond-requires
 is-beyond-requires c κs = search needs
@@ -33,11 +30,11 @@ returns : tie.Need-returns
 unfolding sampleRefusal
 returns c = rw (sym (beyonds (c .before)) ∙ c .if1 .taken)
 
-is-below-requires : tie.Need-is-below-requires
-is-below-requires c κs = search needs
+is-before-requires : tie.Need-is-before-requires
+is-before-requires c κs = search needs
 
-is-below-requires-2 : tie.Need-is-below-requires-2
-is-below-requires-2 c κs = search needs
+is-before-requires-2 : tie.Need-is-before-requires-2
+is-before-requires-2 c κs = search needs
 
 returns-2 : tie.Need-returns-2
 unfolding sampleRefusal
@@ -45,28 +42,22 @@ returns-2 c =
     let r = c .before .before .before in
     rw (sym (beyonds (r .before)) ∙ r .if1 .left, sym (counts (c .before)) ∙ c .if2 .taken)
 
-is-below-requires-3 : tie.Need-is-below-requires-3
-is-below-requires-3 c κs = search needs
+is-before-requires-3 : tie.Need-is-before-requires-3
+is-before-requires-3 c κs = search needs
 
 returns-3 : tie.Need-returns-3
 unfolding sampleRefusal
 returns-3 c =
     let d = c .before .before in
     let r = d .before .before .before in
-    let s = r .before .before .before in
-    let p : ltZ (s .args .counter) (s .args .next) ≡ true =
-    rw (toZ-ofZ w64 _ (s .fits .counter), toZ-ofZ w64 _ (s .fits .next)) at (sym (c .before .is-below3 .ensures) ∙ c .if3 .taken) in
-    rw (sym (beyonds (r .before)) ∙ r .if1 .left, sym (counts (d .before)) ∙ d .if2 .left, p)
+    rw (sym (beyonds (r .before)) ∙ r .if1 .left, sym (counts (d .before)) ∙ d .if2 .left, sym (c .before .is-before3 .ensures) ∙ c .if3 .taken)
 
 returns-4 : tie.Need-returns-4
 unfolding sampleRefusal
 returns-4 c =
     let d = c .before .before in
     let r = d .before .before .before in
-    let s = r .before .before .before in
-    let p : ltZ (s .args .counter) (s .args .next) ≡ false =
-    rw (toZ-ofZ w64 _ (s .fits .counter), toZ-ofZ w64 _ (s .fits .next)) at (sym (c .before .is-below3 .ensures) ∙ c .if3 .left) in
-    rw (sym (beyonds (r .before)) ∙ r .if1 .left, sym (counts (d .before)) ∙ d .if2 .left, p)
+    rw (sym (beyonds (r .before)) ∙ r .if1 .left, sym (counts (d .before)) ∙ d .if2 .left, sym (c .before .is-before3 .ensures) ∙ c .if3 .left)
 
 pub sample-refusal-spec : {M : Type 1} → statement M
 sample-refusal-spec =
@@ -75,9 +66,9 @@ sample-refusal-spec =
     is-beyond-requires
     is-beyond-requires-2
     returns
-    is-below-requires
-    is-below-requires-2
+    is-before-requires
+    is-before-requires-2
     returns-2
-    is-below-requires-3
+    is-before-requires-3
     returns-3
     returns-4)

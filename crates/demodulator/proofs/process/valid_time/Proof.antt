@@ -5,6 +5,7 @@ use lib.Signed.{mag}
 use lib.Dec.{leb}
 use borrow.Author.Tests.{le-leb, lt-leb}
 use mir.Syntax.{w64}
+use mir.Val.{SFits}
 use mir.ValLaws.{toZ-ofZ}
 use Rattle.demodulator.specs.Valid.{validTime}
 use borrow.Author.Needs.{needs}
@@ -14,25 +15,27 @@ use Rattle.demodulator.proofs.process.valid_time.Reads as reads
 use Rattle.demodulator.proofs.process.valid_time.Lts as lts
 use Rattle.dsp_types.proofs.unsigned.Reads as unsigned-reads
 
+time-fits : (c : tie.After-struct-told) → SFits w64 (c .before .args .t .0)
+time-fits c = search needs
+
+size : (c : tie.After-unsigned) → c .unsigned .result ≡ mag (c .before .before .args .t .0)
+size c = rw (toZ-ofZ w64 _ (time-fits (c .before))) at (c .unsigned .ensures)
+
 unsigned-requires : tie.Need-unsigned-requires
 unsigned-requires c κs = search needs
 
 returns : tie.Need-returns
 unfolding validTime
 returns c =
-    let t = c .before .before .args .t in
-    let f = c .before .before .fits .t in
-    let e : c .before .unsigned .result ≡ mag t = rw (toZ-ofZ w64 t f) at (c .before .unsigned .ensures) in
-    let h : leb (mag t) (c .before .before .args .most) ≡ true = le-leb _ _ (rw e at (c .if1 .taken)) in
-    rw (toZ-ofZ w64 t f, h)
+    let a = c .before .before .before .args in
+    let h : leb (mag (a .t .0)) (a .most) ≡ true = le-leb _ _ (rw (size (c .before)) at (c .if1 .taken)) in
+    rw h
 
 returns-2 : tie.Need-returns-2
 unfolding validTime
 returns-2 c =
-    let t = c .before .before .args .t in
-    let f = c .before .before .fits .t in
-    let e : c .before .unsigned .result ≡ mag t = rw (toZ-ofZ w64 t f) at (c .before .unsigned .ensures) in
-    let h : leb (mag t) (c .before .before .args .most) ≡ false = lt-leb _ _ (rw e at (c .if1 .left)) in
+    let a = c .before .before .before .args in
+    let h : leb (mag (a .t .0)) (a .most) ≡ false = lt-leb _ _ (rw (size (c .before)) at (c .if1 .left)) in
     rw h
 
 pub valid-time-spec : {M : Type 1} → statement M

@@ -8,6 +8,7 @@ use mir.Syntax.{w64}
 use mir.Val.{SFits, ofZ, toZ}
 use mir.ValLaws.{toZ-ofZ}
 use Rattle.dsp_types.specs.Ints.{eqZ, eqZ-yes, eqZ-no, parts, same}
+use borrow.Author.Needs.{needs}
 use Rattle.demodulator.proofs.sums.is_same.Statement.{statement}
 use Rattle.demodulator.proofs.sums.is_same.Tie as tie
 
@@ -17,8 +18,14 @@ bits-same x y f g true e =
 bits-same x y f g false e =
     sym (eqZ-no x y (λ p. eqb-false (ofZ w64 x) (ofZ w64 y) e (ap (ofZ w64) (same x y p))))
 
+count-fits : (c : tie.After-struct-told2) → SFits w64 (c .before .before .before .before .args .count .0)
+count-fits c = search needs
+
+other-fits : (c : tie.After-struct-told2) → SFits w64 (c .before .before .before .before .args .other .0)
+other-fits c = search needs
+
 returns : tie.Need-returns
-returns c = bits-same (c .args .a) (c .args .b) (c .fits .a) (c .fits .b) _ refl
+returns c = bits-same _ _ (count-fits c) (other-fits c) _ refl
 
 pub is-same-spec : {M : Type 1} → statement M
 is-same-spec = tie.close (tie.spec returns)

@@ -9,16 +9,19 @@ use Rattle.demodulator.proofs.sums.slots_long.Tie as tie
 use Rattle.demodulator.proofs.sums.slots_long.Reads as reads
 use Rattle.demodulator.proofs.sums.slots_long.Lts as lts
 
-mul-result : tie.Need-mul-result
-mul-result c = search needs
-
 cast-result : tie.Need-cast-result
 cast-result c = search needs
 
+mul-result : tie.Need-mul-result
+mul-result c = search needs
+
+cast-result-2 : tie.Need-cast-result-2
+cast-result-2 c = search needs
+
 returns : tie.Need-returns
 returns c =
-    let n = c .args .slots in
+    let n = c .before .args .slot .0 in
     toZ-pos w64 (n * 1020) (omega arith)
 
 pub slots-long-spec : {M : Type 1} → statement M
-slots-long-spec = tie.close (tie.spec mul-result cast-result returns)
+slots-long-spec = tie.close (tie.spec cast-result mul-result cast-result-2 returns)

@@ -1,10 +1,10 @@
 -- `take::fill` meets its contract. The loops' invariant: the first i bytes are filled.
-use mathlib.Core.Path.{_≡_, sym, _∙_}
+use mathlib.Core.Path.{_≡_, _∙_}
 use mathlib.Core.List.{_++_, map}
 use Prim.Native.Nat.{_-_, _≤_, min}
 use native.Mathlib.Numerals.{add-one}
 use native.Mathlib.Omega.{arith}
-use lib.ListN.{length, drop, getD}
+use lib.ListN.{length, drop}
 use borrow.Author.Needs.{needs}
 use Rattle.demodulator.specs.Calls.{padded}
 use Rattle.demodulator.proofs.Taking.{fill-none, fill-step, fill-all, fill-on, bit, bit-at, zero-at}

@@ -1,6 +1,5 @@
 -- `take::take_burst` meets its contract, by `get_burst` and `fill`.
-use mathlib.Core.Path.{_≡_, sym, ap, _∙_}
-use mathlib.Core.Bool.{Bool}
+use mathlib.Core.Path.{sym, ap, _∙_}
 use lib.ListN.{length}
 use Rattle.demodulator.specs.Receiver.{BurstView, noView}
 use Rattle.demodulator.specs.Calls.{padded, burstShown}

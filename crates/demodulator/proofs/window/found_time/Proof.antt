@@ -1,24 +1,17 @@
 -- `window::found_time` meets its contract.
-use mathlib.Core.Path.{_≡_}
 use Prim.Native.Nat.{_^_, _*_}
 use native.Mathlib.Omega.{arith}
 use lib.Dec.{lit≤}
-use lib.IntN.{pos, _-ℤ_}
+use lib.IntN.{pos}
 use mir.Syntax.{w64}
 use mir.ValLaws.{toZ-pos}
-use Rattle.demodulator.proofs.Signed.{read, read-within, wider, within-pos, within-difference}
+use Rattle.demodulator.proofs.Signed.{wider, within-pos, within-difference}
 use borrow.Author.Needs.{needs}
 use Rattle.demodulator.proofs.window.found_time.Statement.{statement}
 use Rattle.demodulator.proofs.window.found_time.Tie as tie
 
--- when the slot would have begun at place 0
-first : (c : tie.After-minus) → c .minus .result ≡ c .before .args .ready -ℤ pos 2034
-first c = rw (c .minus .ensures, read-within (wider (2 ^ 61) (lit≤ tt) (c .before .pre .0)))
-
 minus-requires : tie.Need-minus-requires
-minus-requires c κs =
-    let h = wider (2 ^ 61) (lit≤ tt) (c .pre .0) in
-    rw (read-within h) (h, within-pos (2 ^ 61) (lit≤ tt))
+minus-requires c κs = (wider (2 ^ 61) (lit≤ tt) (c .pre .0), within-pos (2 ^ 61) (lit≤ tt))
 
 mul-plus : tie.Need-mul-plus
 mul-plus c = search needs
@@ -29,13 +22,13 @@ cast-plus c = search needs
 plus-requires : tie.Need-plus-requires
 plus-requires c κs =
     let n = c .before .args .place * 2 in
-    rw (read _ (c .minus .ok), first c, toZ-pos w64 n (omega (arith, c .before .pre .1)))
+    rw (c .minus .ensures, toZ-pos w64 n (omega (arith, c .before .pre .1)))
     (wider (2 ^ 61) (lit≤ tt) (within-difference _ (pos 2034) (c .before .pre .0) (within-pos {n = 2034} 2034 (lit≤ tt))), within-pos (2 ^ 61) (omega (arith, c .before .pre .1)))
 
 returns : tie.Need-returns
 returns c =
     let n = c .before .before .args .place * 2 in
-    rw (read _ (c .plus .ok), c .plus .ensures, read _ (c .before .minus .ok), first (c .before), toZ-pos w64 n (omega (arith, c .before .before .pre .1)))
+    rw (c .plus .ensures, c .before .minus .ensures, toZ-pos w64 n (omega (arith, c .before .before .pre .1)))
 
 pub found-time-spec : {M : Type 1} → statement M
 found-time-spec = tie.close (tie.spec minus-requires mul-plus cast-plus plus-requires returns)

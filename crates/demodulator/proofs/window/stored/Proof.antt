@@ -1,5 +1,4 @@
 -- `window::stored` meets its contract: field by field.
-use mathlib.Core.Path.{_≡_}
 use Rattle.demodulator.specs.Receiver.{viewOn}
 use Rattle.demodulator.specs.View.{storedView}
 use borrow.Author.Needs.{needs}
