@@ -8,7 +8,7 @@ use lib.ListN.{length, take, length-append}
 use lib.IntN.{ℤ, pos, _+ℤ_, _-ℤ_}
 use Rattle.dsp_types.specs.declared.ComplexSample.{ComplexSample}
 use Rattle.dsp_types.specs.Ints.{up}
-use Rattle.dsp_types.specs.Refusals.{wrongLength}
+use Rattle.dsp_types.specs.Refusals.{wrongLength, counters}
 use Rattle.demodulator.specs.Signal.{Signal, hear}
 use Rattle.demodulator.specs.Receiver as R
 use Rattle.demodulator.specs.declared.Mode.{Mode}
@@ -269,7 +269,7 @@ agree-accepted x c cs e q g =
     let r : Receiver = after cs in
     let n : ℕ = length (heard cs) in
     let a : Accepted n c = accepted-at (nextCounter cs) x c n e (g .counted) in
-    let few : n < 137438953472 = omega (arith, a .below, ap up (sym (a .is) ∙ q)) in
+    let few : n < counters = omega (arith, a .below, ap up (sym (a .is) ∙ q)) in
     accepts x c cs (processSample r x (pos n)) (windowOf r x (pos n)) g (sample-accepts r x c n (g .within) (rw (g .next) e) (g .next ∙ g .counted) q) e q
     (subst (λ (s : Signal). Stepped r (processSample r x (pos n)) (windowOf r x (pos n)) n s (tracked (heard cs)) (turn (tracked (heard cs)) n s))
     (ap (λ (s : Signal). hear s x) (g .signal)) (stepped r x n (tracked (heard cs)) (g .timed) (g .waiting .whole) few))

@@ -14,7 +14,7 @@ use lib.Ieee.{Float}
 use borrow.Author.Tests.{le-leb, leb-false, ltb-false, eqb-true}
 use Rattle.dsp_types.specs.declared.ComplexSample.{ComplexSample}
 use Rattle.dsp_types.specs.Ints.{up, dn, sum, less, same, eqZ, ltZ-no}
-use Rattle.dsp_types.specs.Refusals.{beyond, outOfCount}
+use Rattle.dsp_types.specs.Refusals.{beyond, outOfCount, counters, lastCounter}
 use Rattle.dsp_types.specs.Samples.{silence}
 use Rattle.dsp_types.specs.Times.{slots, slotOf}
 use Rattle.burst_finder.specs.Search.{findSync}
@@ -23,7 +23,7 @@ use Rattle.demodulator.specs.Receiver as R
 use Rattle.demodulator.specs.declared.Mode.{Mode}
 use Rattle.demodulator.specs.declared.Mode.the-variants.{Idle, DlUnsynchronized, Dl, Ul}
 use Rattle.demodulator.specs.Receiver.{Clock, Lock, BurstView, Receiver, withMode, withClock, withLock, withWaits, withSlot, withNext, withSignal, new, setSlot, addSlots, processSample, closeWindow, missing, feedZeros, accept}
-use Rattle.demodulator.specs.Valid.{validTime, validClock, validLock, validCount, valid, validSlot}
+use Rattle.demodulator.specs.Valid.{validTime, validClock, validLock, validCount, valid, validSlot, farReference, farReady}
 use Rattle.demodulator.specs.Calls.{Outcome, unless, sampleRefusal, sampled, sampleOutcome, takeRefusal, taken, takeOutcome, followRefusal, slotWhen, following, followed, followOutcome}
 use Rattle.account.specs.Reachable as Reachable
 use Rattle.account.specs.Reachable.{Reachable, anew, told}
@@ -37,10 +37,10 @@ use Rattle.account.proofs.Numbers.{slot-below, accept-step}
 
 -- how late a reference time may be: no later than the counter, or for a receiver that took another's, than any counter
 unfoldable pub reach : Mode → ℕ → ℕ
-reach Idle n = 137438953472
+reach Idle n = counters
 reach DlUnsynchronized n = n
 reach Dl n = n
-reach Ul n = 137438953472
+reach Ul n = counters
 
 -- a locked receiver has had fewer than a hundred misses
 unfoldable pub spare : Mode → ℕ
@@ -53,8 +53,8 @@ spare Ul = 0
 pub record Timely (m : Mode) (c : Clock) (n : ℕ) : Type 0 where
   pub late : up (c .referenceTime) ≤ reach m n
   pub early : dn (c .referenceTime) ≤ reach m n + 2050
-  pub ready-late : up (c .slotReadyTime) ≤ 549755813888
-  pub ready-early : dn (c .slotReadyTime) ≤ 549755813888
+  pub ready-late : up (c .slotReadyTime) ≤ farReference
+  pub ready-early : dn (c .slotReadyTime) ≤ farReference
 
 -- .. and the misses
 pub record Bounded (r : Receiver) (n : ℕ) : Type 0 where
@@ -66,7 +66,7 @@ one-part : (z : ℤ) → (up z ≡ 0) ⊎ (dn z ≡ 0)
 one-part (pos n) = inr refl
 one-part (negsuc n) = inl refl
 
-reach-most : (m : Mode) (n : ℕ) → n ≤ 137438953472 → reach m n ≤ 137438953472
+reach-most : (m : Mode) (n : ℕ) → n ≤ counters → reach m n ≤ counters
 unfolding reach
 reach-most Idle n h = omega arith
 reach-most DlUnsynchronized n h = h
@@ -80,12 +80,12 @@ reach-more DlUnsynchronized n k h = h
 reach-more Dl n k h = h
 reach-more Ul n k h = omega arith
 
-begin-parts : (m : Mode) (z : ℤ) (s : ℕ) → s < slots → up z ≤ 137438953472 → dn z ≤ 137438953472 + 2050
-    → (up (z +ℤ pos (s * 1020) +ℤ R.slotReadyFromBegin m) ≤ 549755813888) × (dn (z +ℤ pos (s * 1020) +ℤ R.slotReadyFromBegin m) ≤ 549755813888)
+begin-parts : (m : Mode) (z : ℤ) (s : ℕ) → s < slots → up z ≤ counters → dn z ≤ counters + 2050
+    → (up (z +ℤ pos (s * 1020) +ℤ R.slotReadyFromBegin m) ≤ farReference) × (dn (z +ℤ pos (s * 1020) +ℤ R.slotReadyFromBegin m) ≤ farReference)
 unfolding R.slotReadyFromBegin
 begin-parts m z s h a b = go m
   where
-    by : (k : ℕ) → k ≤ 1020 → (up (z +ℤ pos (s * 1020) +ℤ pos k) ≤ 549755813888) × (dn (z +ℤ pos (s * 1020) +ℤ pos k) ≤ 549755813888)
+    by : (k : ℕ) → k ≤ 1020 → (up (z +ℤ pos (s * 1020) +ℤ pos k) ≤ farReference) × (dn (z +ℤ pos (s * 1020) +ℤ pos k) ≤ farReference)
     by k l =
         let y : ℤ = z +ℤ pos (s * 1020) +ℤ pos k in
         elim (one-part y) [
@@ -93,21 +93,21 @@ begin-parts m z s h a b = go m
           | inr e ↦ omega (arith, ready-parts z (s * 1020) k, e, h, a, b, l)
         ]
 
-    go : (m : Mode) → (up (z +ℤ pos (s * 1020) +ℤ R.slotReadyFromBegin m) ≤ 549755813888) × (dn (z +ℤ pos (s * 1020) +ℤ R.slotReadyFromBegin m) ≤ 549755813888)
+    go : (m : Mode) → (up (z +ℤ pos (s * 1020) +ℤ R.slotReadyFromBegin m) ≤ farReference) × (dn (z +ℤ pos (s * 1020) +ℤ R.slotReadyFromBegin m) ≤ farReference)
     go Idle = by 1018 (omega arith)
     go DlUnsynchronized = by 1018 (omega arith)
     go Dl = by 1018 (omega arith)
     go Ul = by 1020 (omega arith)
 
 -- ---- slot timing
-timely-set : (m j : Mode) (z : ℤ) (s n : ℕ) → s < slots → n ≤ 137438953472 → up z ≤ reach m n → dn z ≤ reach m n + 2050 → Timely m (setSlot j z s) n
+timely-set : (m j : Mode) (z : ℤ) (s n : ℕ) → s < slots → n ≤ counters → up z ≤ reach m n → dn z ≤ reach m n + 2050 → Timely m (setSlot j z s) n
 unfolding setSlot
 timely-set m j z s n h l a b =
     let k = reach-most m n l in
     let p = begin-parts j z s h (omega (arith, a, k)) (omega (arith, b, k)) in
     record { late = a; early = b; ready-late = p .0; ready-early = p .1 }
 
-timely-add : (m : Mode) (c : Clock) (j : ℤ) (n : ℕ) → n ≤ 137438953472 → Timely m c n → Timely m (addSlots m c j) n
+timely-add : (m : Mode) (c : Clock) (j : ℤ) (n : ℕ) → n ≤ counters → Timely m c n → Timely m (addSlots m c j) n
 unfolding addSlots
 timely-add m c j n l t = timely-set m m (c .referenceTime) (slotOf (pos (c .currentSlot) +ℤ j)) n (slot-below (pos (c .currentSlot) +ℤ j)) l (t .late) (t .early)
 
@@ -149,20 +149,20 @@ bounded-more : (r : Receiver) (n k : ℕ) → n ≤ k → Bounded r n → Bounde
 bounded-more r n k h b = record { timely = timely-more (r .mode) (r .clock) n k h (b .timely); misses = b .misses }
 
 -- ---- the next window
-on-bounded : (r : Receiver) (k : ℕ) → k < 137438953472 → Bounded r k → up (r .clock .slotReadyTime) + 16 ≡ k + dn (r .clock .slotReadyTime)
+on-bounded : (r : Receiver) (k : ℕ) → k < counters → Bounded r k → up (r .clock .slotReadyTime) + 16 ≡ k + dn (r .clock .slotReadyTime)
     → Bounded (withClock r (R.searchOn (r .clock))) (suc k)
 unfolding withClock R.searchOn
 on-bounded r k few b at =
     let t : Timely (r .mode) (r .clock) (suc k) = timely-more (r .mode) (r .clock) k (suc k) (omega arith) (b .timely) in
     let z : ℤ = r .clock .slotReadyTime +ℤ pos 400 in
     let y = sum (r .clock .slotReadyTime) (pos 400) in
-    let s : (up z ≤ 549755813888) × (dn z ≤ 549755813888) = elim (one-part z) [ inl e ↦ omega (arith, y, e, at, few) | inr e ↦ omega (arith, y, e, at, few) ] in
+    let s : (up z ≤ farReference) × (dn z ≤ farReference) = elim (one-part z) [ inl e ↦ omega (arith, y, e, at, few) | inr e ↦ omega (arith, y, e, at, few) ] in
     record {
       timely = record { late = t .late; early = t .early; ready-late = s .0; ready-early = s .1 };
       misses = b .misses;
     }
 
-advanced-bounded : (r : Receiver) (k : ℕ) → r .mode ≡ Dl → k < 137438953472 → Bounded r k → Bounded (advanced r) (suc k)
+advanced-bounded : (r : Receiver) (k : ℕ) → r .mode ≡ Dl → k < counters → Bounded r k → Bounded (advanced r) (suc k)
 unfolding advanced withClock withLock
 advanced-bounded r k m few b =
     let e : Float = r .lock .timingError in
@@ -177,13 +177,13 @@ advanced-bounded r k m few b =
       misses = b .misses;
     }
 
-next-bounded : (r : Receiver) (n : ℕ) → n ≤ 137438953472 → Bounded r n → Bounded (R.nextSlot r) n
+next-bounded : (r : Receiver) (n : ℕ) → n ≤ counters → Bounded r n → Bounded (R.nextSlot r) n
 unfolding R.nextSlot withClock
 next-bounded r n few b = record { timely = timely-add (r .mode) (r .clock) (pos 1) n few (b .timely); misses = b .misses }
 
 -- ---- a window's bits
 -- a find sets the reference time from the counter
-found-bounded : (r : Receiver) (k place : ℕ) → k < 137438953472 → Placed place → Bounded r k → up (r .clock .slotReadyTime) + 16 ≡ k + dn (r .clock .slotReadyTime) → Bounded (R.found r place) k
+found-bounded : (r : Receiver) (k place : ℕ) → k < counters → Placed place → Bounded r k → up (r .clock .slotReadyTime) + 16 ≡ k + dn (r .clock .slotReadyTime) → Bounded (R.found r place) k
 unfolding R.found withMode withClock withLock withSlot setSlot reach spare
 found-bounded r k place few p b at =
     let z : ℤ = R.found r place .clock .referenceTime in
@@ -220,7 +220,7 @@ unlike : Dl ≡ DlUnsynchronized → ⊥
 unlike e = let z : _≡_ {A = ℕ} 0 1 = cc in omega arith
 
 -- a search window
-search-bounded : (r : Receiver) (k : ℕ) (d : Bool) → leb (findSync (windowBits (r .signal)) .dist) 1 ≡ d → k < 137438953472 → Bounded r k
+search-bounded : (r : Receiver) (k : ℕ) (d : Bool) → leb (findSync (windowBits (r .signal)) .dist) 1 ≡ d → k < counters → Bounded r k
     → up (r .clock .slotReadyTime) + 16 ≡ k + dn (r .clock .slotReadyTime) → Judged (R.searchWindow d (findSync (windowBits (r .signal)) .pos) r) k
 unfolding R.searchWindow R.notFoundYet withSlot R.found withMode
 search-bounded r k true e few b at =
@@ -230,7 +230,7 @@ search-bounded r k true e few b at =
     }
 search-bounded r k false e few b at = record { bounded = record { timely = b .timely; misses = b .misses }; at = λ h. at }
 
-judged : (m : Mode) (r : Receiver) (k : ℕ) → r .mode ≡ m → k < 137438953472 → Bounded r k → up (r .clock .slotReadyTime) + 16 ≡ k + dn (r .clock .slotReadyTime)
+judged : (m : Mode) (r : Receiver) (k : ℕ) → r .mode ≡ m → k < counters → Bounded r k → up (r .clock .slotReadyTime) + 16 ≡ k + dn (r .clock .slotReadyTime)
     → Judged (R.processPastSamples m r) k
 unfolding R.processPastSamples R.handOver withWaits withSlot
 judged Idle r k m few b at = record { bounded = b; at = λ h. at }
@@ -239,34 +239,34 @@ judged Dl r k m few b at = slot-bounded _ _ r k m b (lock-misses (r .lock) _ _ (
 judged Ul r k m few b at = record { bounded = record { timely = b .timely; misses = b .misses }; at = λ h. at }
 
 -- the next window
-scheduled : (m : Mode) (r : Receiver) (k : ℕ) → r .mode ≡ m → k < 137438953472 → Judged r k → Bounded (R.schedule m r) (suc k)
+scheduled : (m : Mode) (r : Receiver) (k : ℕ) → r .mode ≡ m → k < counters → Judged r k → Bounded (R.schedule m r) (suc k)
 unfolding R.schedule
 scheduled Idle r k m few j = bounded-more r k (suc k) (omega arith) (j .bounded)
 scheduled DlUnsynchronized r k m few j = on-bounded r k few (j .bounded) (j .at m)
 scheduled Dl r k m few j = rw (advances r) (advanced-bounded r k m few (j .bounded))
 scheduled Ul r k m few j = next-bounded r (suc k) (omega arith) (bounded-more r k (suc k) (omega arith) (j .bounded))
 
-window-bounded : (r : Receiver) (k : ℕ) → k < 137438953472 → Bounded r k → up (r .clock .slotReadyTime) + 16 ≡ k + dn (r .clock .slotReadyTime) → Bounded (closeWindow r) (suc k)
+window-bounded : (r : Receiver) (k : ℕ) → k < counters → Bounded r k → up (r .clock .slotReadyTime) + 16 ≡ k + dn (r .clock .slotReadyTime) → Bounded (closeWindow r) (suc k)
 unfolding closeWindow R.processed
 window-bounded r k few b at = scheduled (R.processPastSamples (r .mode) r .mode) (R.processPastSamples (r .mode) r) k refl few (judged (r .mode) r k refl few b at)
 
 -- ---- a sample
-close-bounded : (d : Bool) (r : Receiver) (k : ℕ) → eqZ (pos k -ℤ pos 16) (r .clock .slotReadyTime) ≡ d → k < 137438953472 → Bounded r k → Bounded (R.closeIf d r) (suc k)
+close-bounded : (d : Bool) (r : Receiver) (k : ℕ) → eqZ (pos k -ℤ pos 16) (r .clock .slotReadyTime) ≡ d → k < counters → Bounded r k → Bounded (R.closeIf d r) (suc k)
 unfolding R.closeIf
 close-bounded true r k e few b = window-bounded r k few b (closed-at k (r .clock .slotReadyTime) e)
 close-bounded false r k e few b = bounded-more r k (suc k) (omega arith) b
 
-skip-bounded : (d : Bool) (t : ℤ) (r : Receiver) (x : ComplexSample) (k : ℕ) → k < 137438953472 → Bounded r k → Bounded (R.skipIf d t (R.listen r x)) k
+skip-bounded : (d : Bool) (t : ℤ) (r : Receiver) (x : ComplexSample) (k : ℕ) → k < counters → Bounded r k → Bounded (R.skipIf d t (R.listen r x)) k
 unfolding R.skipIf R.listen withClock withSignal
 skip-bounded true t r x k few b = record { timely = timely-add (r .mode) (r .clock) (R.slotsToSkip t) k (omega arith) (b .timely); misses = b .misses }
 skip-bounded false t r x k few b = record { timely = b .timely; misses = b .misses }
 
-pub process-bounded : (r : Receiver) (x : ComplexSample) (n k : ℕ) → n ≤ k → k < 137438953472 → Bounded r n → Bounded (processSample r x (pos k)) (suc k)
+pub process-bounded : (r : Receiver) (x : ComplexSample) (n k : ℕ) → n ≤ k → k < counters → Bounded r n → Bounded (processSample r x (pos k)) (suc k)
 unfolding processSample R.arrived R.closes
 process-bounded r x n k h few b =
     close-bounded _ (R.skipIf (R.far (R.tdiff r (pos k))) (R.tdiff r (pos k)) (R.listen r x)) k refl few (skip-bounded _ (R.tdiff r (pos k)) r x k few (bounded-more r n k h b))
 
-zeros-bounded : (j : ℕ) (r : Receiver) (n k : ℕ) → n + j ≤ k → k < 137438953472 → Bounded r n → Bounded (feedZeros j r (pos k)) k
+zeros-bounded : (j : ℕ) (r : Receiver) (n k : ℕ) → n + j ≤ k → k < counters → Bounded r n → Bounded (feedZeros j r (pos k)) k
 unfolding feedZeros
 zeros-bounded zero r n k h few b = bounded-more r n k (omega arith) b
 zeros-bounded (suc j) r n k h few b =
@@ -279,7 +279,7 @@ zeros-bounded (suc j) r n k h few b =
 pub record Within (r : Receiver) : Type 0 where
   pub count : ℕ
   pub next : r .next ≡ pos count
-  pub most : count ≤ 137438953472
+  pub most : count ≤ counters
   pub bounded : Bounded r count
   pub current : r .clock .currentSlot < slots
   pub time : r .slot .time < slots
@@ -293,15 +293,15 @@ valid-time most (negsuc n) h k = rw (le-leb n most (omega arith))
 module _ (r : Receiver) (w : Within r) where
   pub valid-count : validCount (r .next) ≡ r .next
   unfolding validCount
-  valid-count = rw (w .next, ltZ-no (pos (w .count)) (pos 0) (omega arith), ltZ-no (pos 137438953472) (pos (w .count)) (omega (arith, w .most)))
+  valid-count = rw (w .next, ltZ-no (pos (w .count)) (pos 0) (omega arith), ltZ-no (pos counters) (pos (w .count)) (omega (arith, w .most)))
 
   clock-same : validClock (r .clock) ≡ r .clock
   unfolding validClock
   clock-same =
       let t : Timely (r .mode) (r .clock) (w .count) = w .bounded .timely in
       let m = reach-most (r .mode) (w .count) (w .most) in
-      let z = valid-time 549755813888 (r .clock .referenceTime) (omega (arith, t, m)) (omega (arith, t, m)) in
-      let y = valid-time 1099511627775 (r .clock .slotReadyTime) (omega (arith, t)) (omega (arith, t)) in
+      let z = valid-time farReference (r .clock .referenceTime) (omega (arith, t, m)) (omega (arith, t, m)) in
+      let y = valid-time farReady (r .clock .slotReadyTime) (omega (arith, t)) (omega (arith, t)) in
       let s : r .clock .currentSlot % slots ≡ r .clock .currentSlot = mod-eq-of-lt (w .current) in
       λ i. record { referenceTime = z i; slotReadyTime = y i; currentSlot = s i }
 
@@ -324,22 +324,22 @@ module _ (r : Receiver) (w : Within r) where
 pub record Accepted (n : ℕ) (c : ℤ) : Type 0 where
   pub counter : ℕ
   pub is : c ≡ pos counter
-  pub below : counter < 137438953472
+  pub below : counter < counters
   pub least : n ≤ counter
 
 pub accepted-at : (next : ℤ) (x : ComplexSample) (c : ℤ) (n : ℕ) → sampleRefusal next x c ≡ 0 → next ≡ pos n → Accepted n c
 unfolding sampleRefusal outOfCount
 accepted-at next x c n e f = bad (beyond (x .re) || beyond (x .im)) c e
   where
-    count : (k : ℕ) (o : Bool) → ltb 137438953471 k ≡ o → (l : Bool) → ltZ (pos k) next ≡ l → _≡_ {A = ℕ} (cond o 2 (cond l 10 0)) 0 → Accepted n (pos k)
+    count : (k : ℕ) (o : Bool) → ltb lastCounter k ≡ o → (l : Bool) → ltZ (pos k) next ≡ l → _≡_ {A = ℕ} (cond o 2 (cond l 10 0)) 0 → Accepted n (pos k)
     count k true p l q e = absurd (omega (arith, e))
     count k false p true q e = absurd (omega (arith, e))
-    count k false p false q e = record { counter = k; is = refl; below = omega (arith, ltb-false 137438953471 k p); least = omega (arith, ltb-false k n (rw f at q)) }
+    count k false p false q e = record { counter = k; is = refl; below = omega (arith, ltb-false lastCounter k p); least = omega (arith, ltb-false k n (rw f at q)) }
 
     bad : (b : Bool) (c : ℤ) → _≡_ {A = ℕ} (cond b 1 (cond (outOfCount c) 2 (cond (ltZ c next) 10 0))) 0 → Accepted n c
     bad true c e = absurd (omega (arith, e))
     bad false (negsuc k) e = absurd (omega (arith, e))
-    bad false (pos k) e = count k (ltb 137438953471 k) refl (ltZ (pos k) next) refl e
+    bad false (pos k) e = count k (ltb lastCounter k) refl (ltZ (pos k) next) refl e
 
 missing-most : (n k : ℕ) → n ≤ k → n + missing (pos k -ℤ pos n) ≤ k
 unfolding missing
@@ -348,7 +348,7 @@ missing-most n k h = rw e (omega arith)
     e : pos k -ℤ pos n ≡ pos (k - n)
     e = same (pos k -ℤ pos n) (pos (k - n)) (omega (arith, less (pos k) (pos n)))
 
-accept-within : (r : Receiver) (x : ComplexSample) (k : ℕ) → k < 137438953472 → (w : Within r) → w .count ≤ k → Within (accept r x (pos k))
+accept-within : (r : Receiver) (x : ComplexSample) (k : ℕ) → k < counters → (w : Within r) → w .count ≤ k → Within (accept r x (pos k))
 unfolding accept withNext
 accept-within r x k few w h =
     let n : ℕ = w .count in
@@ -401,7 +401,7 @@ take-within r s a b w = unless-within (takeRefusal s a b (r .waits)) r _ (taken 
 
 -- what Idle and Ul share
 record Follower (m : Mode) (n : ℕ) : Type 0 where
-  reach-is : reach m n ≡ 137438953472
+  reach-is : reach m n ≡ counters
   spare-is : spare m ≡ 0
 
 follower : (m : Mode) (n : ℕ) → followRefusal m ≡ 0 → Follower m n

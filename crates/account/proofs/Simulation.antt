@@ -10,6 +10,7 @@ use lib.IntN.{ℤ, pos, negsuc, _+ℤ_, _-ℤ_}
 use lib.Dec.{ltb, leb, eqb}
 use lib.Ieee.{Float, binary32, sub}
 use borrow.Author.Tests.{eqb-true, eqb-false, ne-eqb, lt-ltb, le-ltb, leb-true, leb-false}
+use Rattle.dsp_types.specs.Refusals.{counters}
 use Rattle.dsp_types.specs.declared.ComplexSample.{ComplexSample}
 use Rattle.dsp_types.specs.Ints.{up, dn, sum, eqZ, above-zero}
 use Rattle.dsp_types.specs.Times.{slots, slotOf}
@@ -405,7 +406,7 @@ module _ (r : Receiver) (x : ComplexSample) (n : ℕ) (t : Tracked) where
       })
 
   -- a locked window, the lock kept
-  slot-kept : Locked (r .mode) (r .lock) t → Steady (r .clock) n t → Whole (r .slot) → n < 137438953472 → eqb n (t .account .due) ≡ true
+  slot-kept : Locked (r .mode) (r .lock) t → Steady (r .clock) n t → Whole (r .slot) → n < counters → eqb n (t .account .due) ≡ true
       → leb 100 (nextMisses (typeOf (windowBits s′)) (r .lock .misses)) ≡ false → Steps
   unfolding listen withSignal advanced withClock withLock handed-over R.handOver withWaits withSlot withMode over slotTurn nextNumber setSlot R.slotReadyFromBegin
   slot-kept l s u few e f =
@@ -468,7 +469,7 @@ module _ (r : Receiver) (x : ComplexSample) (n : ℕ) (t : Tracked) where
       })
 
   -- all together
-  pub stepped : Timed (r .mode) (r .clock) (r .lock) n t → Whole (r .slot) → n < 137438953472 → Steps
+  pub stepped : Timed (r .mode) (r .clock) (r .lock) n t → Whole (r .slot) → n < counters → Steps
   stepped (searching s) u few = go (eqb n (t .account .due)) refl (leb (findSync (windowBits s′) .dist) 1) refl
     where
       go : (b : Bool) → eqb n (t .account .due) ≡ b → (d : Bool) → leb (findSync (windowBits s′) .dist) 1 ≡ d → Steps

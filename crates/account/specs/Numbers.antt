@@ -5,17 +5,18 @@ use mathlib.Core.List.{List, List·Memᴰ}
 use Prim.Native.Nat.{ℕ, _<_}
 use lib.IntN.{ℤ}
 use Rattle.dsp_types.specs.declared.ComplexSample.{ComplexSample}
+use Rattle.dsp_types.specs.Times.{slots}
 use Rattle.demodulator.specs.declared.feed.Stop.the-variants as Stop
 use Rattle.demodulator.specs.Receiver.{HandedSlot, Receiver}
 use Rattle.demodulator.specs.Windows.{slot, Window}
 use Rattle.demodulator.specs.Calls.{took, sampleOutcome, takeOutcome}
 use Rattle.demodulator.specs.Feed.{feedOf}
 
--- every slot number that a call on r tells is below 283,115,520
+-- every slot number that a call on r tells is below the number of slots, 283,115,520
 pub record Numbered (r : Receiver) : Type 0 where
   -- the number of the slot that a take gives
-  pub take : (slot subslot1 subslot2 : List ℕ) (h : HandedSlot) → takeOutcome r slot subslot1 subslot2 .reply ≡ took h → h .time < 283115520
+  pub take : (slot subslot1 subslot2 : List ℕ) (h : HandedSlot) → takeOutcome r slot subslot1 subslot2 .reply ≡ took h → h .time < slots
   -- the number of each slot that a sample, or a zero fed before it, hands over
-  pub sample : (x : ComplexSample) (c : ℤ) (w : Window) (h : HandedSlot) → List·Memᴰ w (sampleOutcome r x c .windows) → w .kind ≡ slot h → h .time < 283115520
+  pub sample : (x : ComplexSample) (c : ℤ) (w : Window) (h : HandedSlot) → List·Memᴰ w (sampleOutcome r x c .windows) → w .kind ≡ slot h → h .time < slots
   -- the number of the slot that a block of samples stops at
-  pub feed : (xs : List ComplexSample) (c : ℤ) → feedOf r xs c .stop ≡ Stop.Slot → feedOf r xs c .receiver .slot .time < 283115520
+  pub feed : (xs : List ComplexSample) (c : ℤ) → feedOf r xs c .stop ≡ Stop.Slot → feedOf r xs c .receiver .slot .time < slots

@@ -9,7 +9,7 @@ use lib.IntN.{ℤ, pos, negsuc, _-ℤ_}
 use lib.Signed.{mag, ltZ}
 use borrow.Author.Tests.{leb-true, ltb-false}
 use Rattle.dsp_types.specs.declared.ComplexSample.{ComplexSample}
-use Rattle.dsp_types.specs.Refusals.{beyond, outOfCount}
+use Rattle.dsp_types.specs.Refusals.{beyond, outOfCount, counters, lastCounter}
 use Rattle.dsp_types.specs.Ints.{up, dn, less}
 use Rattle.dsp_types.specs.Times.{slots}
 use Rattle.dsp_types.specs.Samples.{silence}
@@ -33,13 +33,13 @@ pub valid-timed : (r : Receiver) → Timed 1 (valid r)
 unfolding valid validClock validLock withClock withLock withNext
 valid-timed r =
     record {
-      reference = valid-within 549755813888 (r .clock .referenceTime);
-      ready = near (valid-within 1099511627775 (r .clock .slotReadyTime));
+      reference = valid-within farReference (r .clock .referenceTime);
+      ready = near (valid-within farReady (r .clock .slotReadyTime));
       current = mod-lt (r .clock .currentSlot) (lit< tt);
       misses = omega (arith, min-le-left 100 (r .lock .misses));
     }
   where
-    near : {z : ℤ} → Within (1099511627775 + 1) z → Within (2 ^ 40) z
+    near : {z : ℤ} → Within (farReady + 1) z → Within (2 ^ 40) z
     near h = record { high = omega (arith, h); low = omega (arith, h) }
 
 -- the counter after the last accepted sample, read
@@ -49,12 +49,12 @@ pub record Next (z : ℤ) : Type 0 where
 
 pub valid-next : (z : ℤ) → Next (validCount z)
 unfolding validCount
-valid-next z = go z (ltZ z (pos 0)) refl (ltZ (pos 137438953472) z) refl
+valid-next z = go z (ltZ z (pos 0)) refl (ltZ (pos counters) z) refl
   where
-    go : (y : ℤ) (a : Bool) → ltZ y (pos 0) ≡ a → (b : Bool) → ltZ (pos 137438953472) y ≡ b → Next (cond (a || b) (pos 0) y)
+    go : (y : ℤ) (a : Bool) → ltZ y (pos 0) ≡ a → (b : Bool) → ltZ (pos counters) y ≡ b → Next (cond (a || b) (pos 0) y)
     go y true e b f = record { within = record { high = omega arith; low = omega arith }; low = omega arith }
     go y false e true f = record { within = record { high = omega arith; low = omega arith }; low = omega arith }
-    go (pos n) false e false f = record { within = record { high = omega (arith, ltb-false 137438953472 n f); low = omega arith }; low = omega arith }
+    go (pos n) false e false f = record { within = record { high = omega (arith, ltb-false counters n f); low = omega arith }; low = omega arith }
     go (negsuc n) false e false f = absurd (let z : _≡_ {A = ℕ} 0 1 = cc in omega arith)
 
 -- what it means that a sample is not refused
@@ -70,7 +70,7 @@ not-refused next x c e = go c (beyond (x .re) || beyond (x .im)) (outOfCount c) 
     go y true b f d g h = absurd (omega (arith, h))
     go y false true f d g h = absurd (omega (arith, h))
     go y false false f true g h = absurd (omega (arith, h))
-    go (pos n) false false f false g h = record { counter = record { high = omega (arith, ltb-false 137438953471 n f); low = omega arith }; later = g }
+    go (pos n) false false f false g h = record { counter = record { high = omega (arith, ltb-false lastCounter n f); low = omega arith }; later = g }
     go (negsuc n) false false f false g h = absurd (let z : _≡_ {A = ℕ} 0 1 = cc in omega arith)
 
 -- ---- zeros

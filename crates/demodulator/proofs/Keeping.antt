@@ -11,13 +11,13 @@ use lib.Signed.{ltZ, mag}
 use Rattle.dsp_types.specs.declared.ComplexSample.{ComplexSample}
 use Rattle.dsp_types.specs.Ints.{up, dn, sum, less, same, parts, ltZ-no, ltZ-false, eqZ, eqZ-no}
 use Rattle.dsp_types.specs.Times.{slots}
-use Rattle.dsp_types.specs.Refusals.{beyond, lastCounter, outOfCount}
+use Rattle.dsp_types.specs.Refusals.{beyond, lastCounter, outOfCount, counters}
 use Rattle.fir.specs.Fir.{lineAfter, outsOf}
 use Rattle.history.specs.History.{heldAfter}
 use Rattle.demodulator.specs.Signal.{Signal, filtered, hear}
 use Rattle.demodulator.specs.Receiver.{Clock, Receiver, withClock, withLock, withNext, withSignal, listen, tdiff, far, skipIf, arrived, closes, closeIf, processSample, missing, feedZeros, accept}
 use Rattle.demodulator.specs.Windows.{handsOver, windowIf, windowOf, zerosWindows, acceptWindows}
-use Rattle.demodulator.specs.Valid.{validTime, validClock, validLock, validCount, valid}
+use Rattle.demodulator.specs.Valid.{validTime, validClock, validLock, validCount, valid, farReference, farReady}
 use Rattle.demodulator.specs.Calls.{sampleRefusal}
 use Rattle.demodulator.specs.Feed.{Block, feedOf}
 use Rattle.demodulator.specs.Quiet.{hearAll, keepAll, magnitudesOf, anyBeyond, Quiet}
@@ -43,7 +43,7 @@ valid-counter : (z : ℤ) → dn z ≤ 0 → up z ≤ 2 ^ 37 → validCount z �
 unfolding validCount
 valid-counter z l h =
     let a : ltZ z (pos 0) ≡ false = ltZ-no z (pos 0) (omega (arith, l)) in
-    let b : ltZ (pos 137438953472) z ≡ false = ltZ-no (pos 137438953472) z (omega (arith, l, h)) in
+    let b : ltZ (pos counters) z ≡ false = ltZ-no (pos counters) z (omega (arith, l, h)) in
     rw (a, b)
 
 none-missing : (z : ℤ) → up z ≤ dn z → missing z ≡ 0
@@ -104,7 +104,7 @@ module _ (r : Receiver) (c : ℤ) (n : ℕ) (q : QuietAt r c (suc n)) where
     unfolding sampleRefusal
     not-refused f =
         let a : ltZ c (pos 0) ≡ false = ltZ-no c (pos 0) (omega (arith, q .low)) in
-        let b : ltZ (pos 137438953471) c ≡ false = ltZ-no (pos 137438953471) c (omega (arith, q .low, q .high)) in
+        let b : ltZ (pos lastCounter) c ≡ false = ltZ-no (pos lastCounter) c (omega (arith, q .low, q .high)) in
         let o : outOfCount c ≡ false = sym (out-of-count c) ∙ rw (a, b) in
         let d : ltZ c c ≡ false = ltZ-no c c (omega arith) in
         rw (at-counter, f, o, d)
@@ -169,7 +169,7 @@ abbrev pub lastQuiet : ℕ
 lastQuiet = lastCounter - 2040
 
 pub quiet-from : (reference ready next c left : ℤ) (slot misses : ℕ)
-    → validTime 549755813888 reference ≡ reference → validTime 1099511627775 ready ≡ ready → next ≡ c → slot < slots → misses ≤ 100
+    → validTime farReference reference ≡ reference → validTime farReady ready ≡ ready → next ≡ c → slot < slots → misses ≤ 100
     → Between (pos 0) c (pos lastQuiet) → Between (pos 1) left (pos 2040) → left ≡ ready +ℤ pos 16 -ℤ c
     → Quiet (record { referenceTime = reference; slotReadyTime = ready; currentSlot = slot }) misses next c (mag left)
 unfolding validClock

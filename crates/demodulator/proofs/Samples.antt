@@ -8,12 +8,12 @@ use lib.IntN.{ℤ, pos, negsuc, _-ℤ_}
 use lib.Signed.{mag, ltZ}
 use borrow.Author.Tests.{le-ltb}
 use Rattle.dsp_types.specs.Ints.{up, dn, less}
-use Rattle.dsp_types.specs.Refusals.{outOfCount}
+use Rattle.dsp_types.specs.Refusals.{outOfCount, lastCounter}
 use Rattle.dsp_types.specs.Samples.{silence}
 use Rattle.demodulator.specs.Receiver.{Receiver, processSample, missing, feedZeros}
 use Rattle.demodulator.specs.Bounds.{Counter}
 
-pub out-of-count : (c : ℤ) → (ltZ c (pos 0) || ltZ (pos 137438953471) c) ≡ outOfCount c
+pub out-of-count : (c : ℤ) → (ltZ c (pos 0) || ltZ (pos lastCounter) c) ≡ outOfCount c
 unfolding outOfCount
 out-of-count (pos n) = rw (le-ltb n 0 (omega arith))
 out-of-count (negsuc n) = refl

@@ -59,6 +59,9 @@ within-sum x y h k = bounded (x +ℤ y) (up x + up y) (dn x + dn y) (omega (arit
 pub within-difference : {a b : ℕ} (x y : ℤ) → Within a x → Within b y → Within (a + b) (x -ℤ y)
 within-difference x y h k = bounded (x -ℤ y) (up x + dn y) (dn x + up y) (omega (arith, less x y)) (omega (arith, h, k)) (omega (arith, h, k))
 
+pub within-less : {m n : ℕ} {x z : ℤ} → z ≡ x -ℤ pos n → Within m x → m ≤ 2 ^ 60 → n ≤ 2 ^ 60 → Within (2 ^ 61) z
+within-less {m} {n} {x} e h l k = rw e (wider (2 ^ 61) (omega (arith, l, k)) (within-difference x (pos n) h (within-pos n (omega arith))))
+
 pub ready-within : (m : Mode) → Within 1020 (slotReadyFromBegin m)
 unfolding slotReadyFromBegin
 ready-within Idle = within-pos 1020 (lit≤ tt)

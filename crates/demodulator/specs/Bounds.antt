@@ -5,6 +5,7 @@ use mathlib.Core.Bool.{Bool, false, _||_}
 use lib.IntN.{ℤ}
 use lib.Signed.{ltZ}
 use Rattle.dsp_types.specs.Ints.{up, dn}
+use Rattle.dsp_types.specs.Refusals.{counters}
 use Rattle.dsp_types.specs.Times.{slots}
 use Rattle.demodulator.specs.Receiver.{Receiver, feedZeros}
 use Rattle.demodulator.specs.Windows.{handsOver, zerosWindows}
@@ -28,14 +29,14 @@ pub record Closing (k : ℕ) (r : Receiver) : Type 0 where
 
 -- a counter that is not refused
 pub record Counter (c : ℤ) : Type 0 where
-  pub high : up c < 2 ^ 37
+  pub high : up c < counters
   pub low : dn c ≤ 0
 
 -- a receiver whose stored numbers were read as valid ones, and a counter that it does not refuse
 pub record Accepts (r : Receiver) (c : ℤ) : Type 0 where
   pub timed : Timed 1 r
   pub counter : Counter c
-  pub next : Within (2 ^ 37) (r .next)
+  pub next : Within counters (r .next)
   pub low : dn (r .next) ≤ 0
   pub later : ltZ c (r .next) ≡ false
 

@@ -2,13 +2,13 @@
 use mathlib.Core.Path.{_≡_}
 use mathlib.Core.Bool.{Bool, false, _||_}
 use mathlib.Core.List.{List, [], _∷_, map}
-use Prim.Native.Nat.{ℕ, _+_, _≤_, _^_}
+use Prim.Native.Nat.{ℕ, _+_, _≤_}
 use lib.IntN.{ℤ}
 use lib.ListN.{take}
 use lib.Ieee.{Float}
 use Rattle.dsp_types.specs.declared.ComplexSample.{ComplexSample}
 use Rattle.dsp_types.specs.Ints.{up, dn}
-use Rattle.dsp_types.specs.Refusals.{beyond}
+use Rattle.dsp_types.specs.Refusals.{counters, beyond}
 use Rattle.fir.specs.Fir.{samplesOf}
 use Rattle.magnitude.specs.Magnitude.{magnitudeOf}
 use Rattle.demodulator.specs.Signal.{Signal, hear}
@@ -42,6 +42,6 @@ pub record Quiet (k : Clock) (misses : ℕ) (next c : ℤ) (n : ℕ) : Type 0 wh
   pub few : misses ≤ 100
   pub follows : next ≡ c
   pub low : dn c ≤ 0
-  pub high : up c + n ≤ 2 ^ 37
+  pub high : up c + n ≤ counters
   pub before : up c + n + dn (k .slotReadyTime) ≤ up (k .slotReadyTime) + 16
   pub near : up (k .slotReadyTime) ≤ up c + dn (k .slotReadyTime) + 2024

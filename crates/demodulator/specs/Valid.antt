@@ -1,25 +1,26 @@
 -- What is read of a stored state: a number that no call could have left counts as a valid one. Definitions only. (`reachable-valid` of
 -- crate account: nothing that calls leave is changed by it.)
-use Prim.Native.Nat.{ℕ, _%_, min}
+use Prim.Native.Nat.{ℕ, _-_, _%_, _^_, min}
 use mathlib.Core.Bool.{Bool, cond, not, _&&_, _||_}
 use mathlib.Core.List.{map}
 use lib.Dec.{eqb, leb}
 use lib.IntN.{ℤ, pos}
 use lib.Signed.{ltZ, mag}
 use lib.ListN.{length}
+use Rattle.dsp_types.specs.Refusals.{counters}
 use Rattle.dsp_types.specs.Times.{slots}
 use Rattle.burst_finder.specs.Slots.{mostErrors}
 use Rattle.demodulator.specs.Receiver.{Clock, Lock, BurstView, HandedSlot, Receiver, withClock, withLock, withNext, noView}
 
--- how far from 0 a reference time and a ready time may be, and the last counter that may be expected: 2^39, 2^40 − 1 and 2^37
+-- how far from 0 a reference time and a ready time may be, and the last counter that may be expected, which is one after the last
 abbrev pub farReference : ℕ
-farReference = 549755813888
+farReference = 2 ^ 39
 
 abbrev pub farReady : ℕ
-farReady = 1099511627775
+farReady = 2 ^ 40 - 1
 
 abbrev pub lastNext : ℕ
-lastNext = 137438953472
+lastNext = counters
 
 -- a time further from 0 than this counts as 0. `mag` is n both for n and for −1 − n
 unfoldable pub validTime : ℕ → ℤ → ℤ

@@ -11,6 +11,7 @@ ghost use mathlib.Core.List.{List, []};
 ghost use Prim.Native.Nat.{_-_, _*_, _^_, _<_};
 ghost use lib.IntN.{pos, _+ℤ_, _-ℤ_};
 ghost use lib.Ieee.{Float};
+ghost use Rattle.dsp_types.specs.Refusals.{counters};
 ghost use Rattle.dsp_types.specs.Times.{slots};
 ghost use Rattle.demodulator.specs.Receiver.{slotReadyFromBegin, setSlot, addSlots, withClock, far, slotsToSkip, skipIf};
 ghost use Rattle.demodulator.specs.View.{modeOf, receiverOf};
@@ -36,7 +37,7 @@ pub(crate) fn ready_time(mode: u8, reference: SampleCount, slot: TdmaTime) -> Sa
 
 // The counter less the filter's delay, less the ready time.
 pub(crate) fn tdiff(counter: SampleCount, ready: SampleCount) -> i64
-    requires { ⌜ Within (2 ^ 37) (counter .0) × Within (2 ^ 40) (ready .0) ⌝ }
+    requires { ⌜ Within counters (counter .0) × Within (2 ^ 40) (ready .0) ⌝ }
     ensures { λ r. ⌜ r ≡ counter .0 -ℤ pos 16 -ℤ ready .0 ⌝ }
 {
     since(minus(counter, 16), ready)

@@ -20,11 +20,11 @@ use history::History;
 ghost use mathlib.Core.Path.{_≡_};
 ghost use mathlib.Core.Bool.{false};
 ghost use mathlib.Core.List.{List};
-ghost use Prim.Native.Nat.{ℕ, _^_, min};
+ghost use Prim.Native.Nat.{ℕ, min};
 ghost use lib.IntN.{_-ℤ_};
 ghost use lib.Signed.{ltZ};
 ghost use lib.Ieee.{Float};
-ghost use Rattle.dsp_types.specs.Refusals.{beyond};
+ghost use Rattle.dsp_types.specs.Refusals.{counters, beyond};
 ghost use Rattle.demodulator.specs.Receiver.{closes, closeIf, processSample, missing, accept};
 ghost use Rattle.demodulator.specs.Windows.{handsOver, windowIf, windowOf, acceptWindows};
 ghost use Rattle.demodulator.specs.Valid.{validTime, validCount, valid};
@@ -87,7 +87,7 @@ pub(crate) fn sample_refusal(next: SampleCount, input: ComplexSample, counter: S
 
 // How many zeros stand in for the samples missing before the counter: at most a slot's.
 fn missing_samples(next: SampleCount, counter: SampleCount) -> usize
-    requires { ⌜ Within (2 ^ 37) (next .0) × Counter (counter .0) × (ltZ (counter .0) (next .0) ≡ false) ⌝ }
+    requires { ⌜ Within counters (next .0) × Counter (counter .0) × (ltZ (counter .0) (next .0) ≡ false) ⌝ }
     ensures { λ r. ⌜ r ≡ missing (counter .0 -ℤ next .0) ⌝ }
 {
     let lost = dsp_types::unsigned(since(counter, next));

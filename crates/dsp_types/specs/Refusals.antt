@@ -1,6 +1,6 @@
 -- The refusals (01, "Refusals"): their numbers, and the tests of the input that several calls share. Definitions only.
 -- Each call's own definition puts its tests in the order of the numbers, so that the smallest that holds is given.
-use Prim.Native.Nat.{ℕ}
+use Prim.Native.Nat.{ℕ, _-_}
 use mathlib.Core.Bool.{Bool, true, false, not, _&&_, _||_}
 use mathlib.Core.List.{List, [], _∷_}
 use lib.Dec.{ltb, eqb}
@@ -62,9 +62,12 @@ notFollowing = 13
 unfoldable pub beyond : Float → Bool
 beyond x = not (le (ofBits binary32 0xc480_0000) x && le x (ofBits binary32 0x4480_0000))
 
--- the last sample counter that is not refused
+-- how many sample counters there are, and the last that is not refused
+abbrev pub counters : ℕ
+counters = 137438953472
+
 abbrev pub lastCounter : ℕ
-lastCounter = 137438953471
+lastCounter = counters - 1
 
 -- a sample counter is refused (2)
 unfoldable pub outOfCount : ℤ → Bool

@@ -50,8 +50,8 @@ pub fn unsigned(n: i64) -> u64
 fn wrapped(n: i64) -> u32
     ensures { λ r. ⌜ r ≡ slotOf n ⌝ }
 {
-    let rest = (unsigned(n) % 283_115_520) as u32;
-    if n < 0 { 283_115_519 - rest } else { rest }
+    let rest = (unsigned(n) % SLOTS as u64) as u32;
+    if n < 0 { LAST_SLOT - rest } else { rest }
 }
 
 impl TdmaTime {

@@ -5,12 +5,14 @@ use demodulator::Mode;
 use demodulator::State;
 use demodulator::Stop;
 use demodulator::TakeAnswer;
+use dsp_types::COUNTERS;
 use dsp_types::SampleCount;
 use libc::STDERR_FILENO;
 use libc::STDOUT_FILENO;
 use text::Text;
-ghost use Prim.Native.Nat.{_/_, _^_, _<_, _≤_};
+ghost use Prim.Native.Nat.{_/_, _<_, _≤_};
 ghost use lib.ListN.{length};
+ghost use Rattle.dsp_types.specs.Refusals.{counters};
 
 // The receiver's past is lent to the calls that hear, so that none of them copies it.
 pub struct Listener {
@@ -141,7 +143,7 @@ impl Listener {
         parts: &[f32],
         options: Options,
     ) -> Heard
-        requires { ⌜ self .counter < 2 ^ 37 ⌝ }
+        requires { ⌜ self .counter < counters ⌝ }
         ensures { λ r. ⌜ r .taken ≤ length (now (parts .entry)) / 2 ⌝ }
     {
         let receiver = self.receiver;
@@ -187,7 +189,7 @@ impl Listener {
         let mut turns = count;
         while turns > 0 && at < count && listener.is_open {
             turns -= 1;
-            if 137_438_953_471 < listener.counter {
+            if COUNTERS <= listener.counter {
                 listener = listener.close();
             } else {
                 let heard = listener.step(re, im, abs, &parts[2 * at..], options);

@@ -20,6 +20,12 @@ unsigned-requires c κs = search needs
 cast-rest : tie.Need-cast-rest
 cast-rest c = search needs
 
+rem-rest : tie.Need-rem-rest
+rem-rest c = search needs
+
+cast-rest-2 : tie.Need-cast-rest-2
+cast-rest-2 c = search needs
+
 sub-result : tie.Need-sub-result
 sub-result c = search needs
 
@@ -40,4 +46,4 @@ returns-2 c =
     rw (c .before .unsigned .ensures, toZ-ofZ w64 n f, above-is n h)
 
 pub wrapped-spec : {M : Type 1} → statement M
-wrapped-spec = tie.close (tie.spec unsigned-requires cast-rest sub-result returns returns-2)
+wrapped-spec = tie.close (tie.spec unsigned-requires cast-rest rem-rest cast-rest-2 sub-result returns returns-2)

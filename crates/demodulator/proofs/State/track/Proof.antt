@@ -38,7 +38,7 @@ unfolding receiverOf
 plus-requires c κs = (wider (2 ^ 61) (lit≤ tt) (c .before .before .pre .reference), within-pos (2 ^ 61) (lit≤ tt))
 
 minus-requires : tie.Need-minus-requires
-minus-requires c κs = (reference-within (c .before .before), within-pos (2 ^ 61) (lit≤ tt))
+minus-requires c κs = (reference-within (c .before .before), record { high = lit≤ tt; low = lit≤ tt })
 
 returns : tie.Need-returns
 unfolding receiverOf early withClock withLock
