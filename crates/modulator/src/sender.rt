@@ -64,8 +64,8 @@ impl Modulator {
         }
     }
 
-    // What is due goes through the filter. A refusal leaves the filter as it is.
-    pub(crate) fn feed(self, due: Due, input: ComplexSample) -> Sampled
+    // Transmits what is due: its input goes through the filter. A refusal leaves the filter as it is.
+    fn transmit(self, due: Due, input: ComplexSample) -> Sampled
         ensures { λ r. ⌜ (told (r .answer) ≡ toldOf (lineOf (self .filter)) input due)
             × (lineOf (r .modulator .filter) ≡ nextLine (lineOf (self .filter)) input due)
             × ((n : ℕ) → due ≡ Due.Refused n → r .modulator ≡ self) ⌝ }
@@ -97,7 +97,7 @@ impl Modulator {
     {
         let d = due_now(sample_counter, slot, has_bits, bits);
         let input = mapper.symbol(d);
-        self.feed(d, input)
+        self.transmit(d, input)
     }
 
     // The same with the phase record by value, for callers that keep it beside the state.
@@ -117,7 +117,7 @@ impl Modulator {
     {
         let d = due_now(sample_counter, slot, has_bits, bits);
         let phase = phase_after(mapper.phase, d);
-        let sampled = self.feed(d, input(phase, d));
+        let sampled = self.transmit(d, input(phase, d));
         let answer = sampled.answer;
         let modulator = sampled.modulator;
         Stepped {

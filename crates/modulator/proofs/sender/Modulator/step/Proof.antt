@@ -16,8 +16,8 @@ phase-after-requires c κs = search needs
 input-requires : tie.Need-input-requires
 input-requires c κs = search needs
 
-feed-requires : tie.Need-feed-requires
-feed-requires c κs = search needs
+transmit-requires : tie.Need-transmit-requires
+transmit-requires c κs = search needs
 
 returns : tie.Need-returns
 returns c =
@@ -25,8 +25,8 @@ returns c =
     let d = c .before .before .before .before .due-now in
     let k = c .before .before .before .phase-after in
     let x = c .before .before .input in
-    sent (a .self) (a .mapper) (d .result) _ (record { phase = k .result }) (x .result) (c .before .feed .result) (d .ensures) (k .ensures, x .ensures ∙ ap (λ (n : ℕ). inputOf n (d .result)) (k .ensures)) (c .before .feed .ensures)
+    sent (a .self) (a .mapper) (d .result) _ (record { phase = k .result }) (x .result) (c .before .transmit .result) (d .ensures) (k .ensures, x .ensures ∙ ap (λ (n : ℕ). inputOf n (d .result)) (k .ensures)) (c .before .transmit .ensures)
 
 pub step-spec : {M : Type 1} → statement M
 step-spec =
-    tie.close (tie.spec due-now-requires phase-after-requires input-requires feed-requires returns)
+    tie.close (tie.spec due-now-requires phase-after-requires input-requires transmit-requires returns)
