@@ -2,8 +2,6 @@
 use crate::due::Due;
 use crate::due::due_now;
 use crate::mapper::DqpskMapper;
-use crate::mapper::input;
-use crate::mapper::phase_after;
 use dsp_types::ComplexSample;
 use dsp_types::SampleCount;
 use dsp_types::TdmaTime;
@@ -36,6 +34,21 @@ pub struct Stepped {
     pub answer: Answer,
     pub modulator: Modulator,
     pub mapper: DqpskMapper,
+}
+
+impl Sampled {
+    // The same answer and state, and the phase record.
+    fn beside(self, mapper: DqpskMapper) -> Stepped
+        ensures { λ r. ⌜ r ≡ record { answer = self .answer; modulator = self .modulator; mapper = mapper } ⌝ }
+    {
+        let answer = self.answer;
+        let modulator = self.modulator;
+        Stepped {
+            answer,
+            modulator,
+            mapper,
+        }
+    }
 }
 
 impl Modulator {
@@ -100,10 +113,10 @@ impl Modulator {
         self.transmit(d, input)
     }
 
-    // The same with the phase record by value, for callers that keep it beside the state.
+    // `sample` with the phase record by value, for callers that keep it beside the state.
     pub fn step(
         self,
-        mapper: DqpskMapper,
+        mut mapper: DqpskMapper,
         sample_counter: SampleCount,
         slot: TdmaTime,
         has_bits: bool,
@@ -115,15 +128,7 @@ impl Modulator {
             × (senderOf (r .modulator) (r .mapper) ≡ after (senderOf self mapper) d)
             × ((n : ℕ) → r .answer ≡ Answer.Refused n → (r .modulator ≡ self) × (r .mapper ≡ mapper))) ⌝ }
     {
-        let d = due_now(sample_counter, slot, has_bits, bits);
-        let phase = phase_after(mapper.phase, d);
-        let sampled = self.transmit(d, input(phase, d));
-        let answer = sampled.answer;
-        let modulator = sampled.modulator;
-        Stepped {
-            answer,
-            modulator,
-            mapper: DqpskMapper { phase },
-        }
+        let sampled = self.sample(&mut mapper, sample_counter, slot, has_bits, bits);
+        sampled.beside(mapper)
     }
 }
