@@ -60,7 +60,7 @@ fn input_refusal(counter: i64, slot: u32, has_bits: bool, bits: &[u8]) -> u32
     ACCEPTED
 }
 
-// The counter of a slot's first sample. It is far below the largest number.
+// The counter of a slot's first sample. Its bound keeps the slot's end from wrapping.
 pub(crate) fn start_of(slot: TdmaTime) -> u64
     ensures { λ r. ⌜ (r ≡ startOf (slot .0)) × (r < 2 ^ 42) ⌝ }
 {
