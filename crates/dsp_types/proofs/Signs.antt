@@ -3,13 +3,13 @@ use mathlib.Core.Path.{_≡_, refl, ap}
 use mathlib.Core.Bool.{Bool, true, false, cond}
 use Prim.Native.Nat.{ℕ, zero, suc, _-_, _<_, _^_}
 use native.Mathlib.Omega.{arith}
-use lib.IntN.{ℤ, pos, negsuc, _-ℤ_, _+ℤ_, subℕ}
+use lib.IntN.{ℤ, pos, negsuc, _-ℤ_, _+ℤ_}
 use lib.Dec.{ltb}
 use lib.Signed.{mag, ltZ}
 use Rattle.dsp_types.specs.Times.{divisor}
 use mir.Syntax.{w32, w64}
 use mir.Val.{SFits}
-use borrow.Author.Tests.{le-ltb, ltb-true, ltb-false}
+use borrow.Author.Tests.{le-ltb, ltb-true}
 
 pub below : (z : ℤ) → ltZ z (pos 0) ≡ true → negsuc 0 -ℤ z ≡ pos (mag z)
 below (pos n) e = absurd (omega (arith, ltb-true n 0 e))

@@ -1,11 +1,10 @@
 -- A ring of n elements whose newest stands at `at`: where the element d steps ago is kept, and that a store at the next place makes a newest element.
 -- Stated once, over the length and the element type: the filter line is a ring of 32, the past one of 2048. Assumes nothing.
-use mathlib.Core.Path.{_≡_, refl, sym, ap, _∙_, subst}
+use mathlib.Core.Path.{_≡_, refl, sym, ap, _∙_}
 use mathlib.Core.Logic.{_⊎_, inl, inr, ⊎-elim, _≢_}
 use Prim.Native.Nat.{ℕ, zero, suc, _+_, _-_, _%_, _<_, _≤_, zero-le, suc-le-suc}
 use native.Mathlib.Nat.{mod-eq-of-lt, add-mod-right, mod-self, mod-lt}
 use native.Mathlib.Omega.{arith}
-use native.Mathlib.Numerals.{add-one}
 use mathlib.Core.List.{List, [], _∷_}
 use lib.ListN.{length, getD, set, take, replicate, getD-replicate}
 use lib.Seq.{getD-set-same, getD-set-other}

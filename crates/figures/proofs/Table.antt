@@ -6,7 +6,8 @@ use lib.Ieee.{ofBits, ofInt}
 use Rattle.magnitude.specs.Magnitude.{magnitudeOf}
 use Rattle.timing.specs.Turns.{quarterTurns}
 use Rattle.train_consts.specs.Training.{normal1, normal2, normal3, synchronization, frequencyCorrection}
-use Rattle.slotter.specs.Phases.{phaseOf, phaseSum, modulo8, closes, adjustment}
+use Rattle.dsp_types.specs.Phases.{phaseOf, modulo8}
+use Rattle.slotter.specs.Phases.{phaseSum, closes, adjustment}
 use Rattle.slotter.specs.Bursts.{syncFields, normalFields, trainingOf, firstWindow, lastWindow, downlink, blockRefusal, trainingRefusal, answered, syncBurst, normalBurst}
 use Rattle.figures.specs.Figures.{burst, f32, computed, stated, figures}
 

@@ -4,7 +4,8 @@ use mathlib.Core.List.{_∷_}
 use lib.ListN.{replicate}
 use Rattle.dsp_types.specs.Refusals.{wrongLength, notBits}
 use Rattle.train_consts.specs.Training.{normal3, synchronization, frequencyCorrection}
-use Rattle.slotter.specs.Phases.{phaseOf, phaseSum, modulo8, closes, adjustment}
+use Rattle.dsp_types.specs.Phases.{phaseOf, modulo8}
+use Rattle.slotter.specs.Phases.{phaseSum, closes, adjustment}
 use Rattle.slotter.specs.Bursts.{syncFields, firstWindow, lastWindow, downlink, blockRefusal, answered, syncBurst}
 use Rattle.text.specs.Text.{ascii, digit, decimal, characterOf}
 use Rattle.lister.specs.Listing.{trimmed, typeOf, wanted, notCharacter, notCharacters, wrongCount, refusalOf, bitOf, burstOf, answerOf, signed, nameOf, refusalLine, burstLines, printed, listed, listing}

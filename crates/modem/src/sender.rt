@@ -1,4 +1,5 @@
 // The sender: its state and its phase record go in by value, and the next ones come back.
+use dsp_types::ACCEPTED;
 use dsp_types::SampleCount;
 use dsp_types::TdmaTime;
 use modulator::Answer;
@@ -45,7 +46,11 @@ fn told_parts(answer: Answer) -> Parts
     ensures { λ r. ⌜ (r .refusal ≡ told answer .number) × (record { re = r .re; im = r .im } ≡ sampleTold (told answer)) ⌝ }
 {
     match answer {
-        Answer::Sample { re, im } => Parts { refusal: 0, re, im },
+        Answer::Sample { re, im } => Parts {
+            refusal: ACCEPTED,
+            re,
+            im,
+        },
         Answer::Refused(refusal) => Parts {
             refusal,
             re: 0.0,

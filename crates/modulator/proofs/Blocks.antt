@@ -2,7 +2,7 @@
 use mathlib.Core.Path.{_≡_, refl, sym, ap, subst, _∙_}
 use mathlib.Core.Bool.{Bool, true, false, not, _&&_, _||_, cond}
 use mathlib.Core.Logic.{⊎-elim}
-use Prim.Native.Nat.{ℕ, zero, suc, _+_, _-_, _*_, _%_, _<_, _≤_, _^_, min}
+use Prim.Native.Nat.{ℕ, zero, suc, _+_, _-_, _*_, _%_, _<_, _≤_, min}
 use native.Mathlib.Nat.{le-refl}
 use native.Mathlib.Omega.{arith}
 use mathlib.Core.List.{List, [], _∷_, _++_, append-nil}
@@ -14,7 +14,7 @@ use lib.Ieee.{Float}
 use borrow.Author.Tests.{lt-ltb, le-ltb, eqb-true, eqb-false, not-false}
 use Rattle.dsp_types.specs.declared.ComplexSample.{ComplexSample}
 use Rattle.dsp_types.specs.Ints.{sum, same}
-use Rattle.dsp_types.specs.Refusals.{outOfCount}
+use Rattle.dsp_types.specs.Refusals.{lastCounter, outOfCount, counters}
 use Rattle.dsp_types.specs.Ring.{le-or-lt}
 use Rattle.dsp_types.specs.Samples.{silence, ago}
 use Rattle.fir.specs.Fir.{filterOf, lineAfter, outsOf, samplesOf, blockOf, startWith, reOf, imOf}
@@ -23,7 +23,7 @@ use Rattle.fir.proofs.Rows.{rest}
 use Rattle.modulator.specs.declared.due.Due.{Due}
 use Rattle.modulator.specs.declared.due.Due.the-variants.{Refused, Silence, Symbol}
 use Rattle.modulator.specs.Dqpsk.{phaseAfter, inputOf}
-use Rattle.modulator.specs.Sender.{inputRefusal, placeIn, symbolAt, dueIn, dueAt, dueIf, dueOf, refusalOf, shapedOf, toldOf, nextLine, Told, Sender, fedBy, tells, after}
+use Rattle.modulator.specs.Sender.{inputRefusal, startOf, placeIn, symbolAt, dueIn, dueAt, dueIf, dueOf, refusalOf, shapedOf, toldOf, nextLine, Told, Sender, fedBy, tells, after}
 use Rattle.modulator.specs.Blocks.{Block, joinedIf, joined, sentBlock, blockCall, dueAfter, partsOf, Wrote, placeDue, inputsOf, phasesOf, fedBlock, leftOf}
 use Rattle.modulator.proofs.Places.{true-ne, early, late, within, slot-accepted}
 
@@ -108,7 +108,7 @@ module _ (due other : ℕ → Due) where
 
 -- ---- which samples are refused
 
-module _ (m slot : ℕ) (b : Bool) (bits : List ℕ) where
+module _ (m start : ℕ) (b : Bool) (bits : List ℕ) where
   sends-in : (p : ℕ) → Sends (dueIn b bits p)
   unfolding dueIn symbolAt
   sends-in p = go (b && eqb (p % 4) 0)
@@ -117,42 +117,42 @@ module _ (m slot : ℕ) (b : Bool) (bits : List ℕ) where
       go true = tt
       go false = tt
 
-  sends-at : m + 16 < slot * 1020 + 1020 → Sends (dueAt b bits (placeIn (pos m) slot))
+  sends-at : m + 16 < start + 1020 → Sends (dueAt b bits (placeIn (pos m) start))
   sends-at h =
       ⊎-elim
-      (λ (l : slot * 1020 ≤ m + 16). subst Sends (sym (within m slot b bits l (omega arith))) (sends-in (m + 16 - slot * 1020)))
-      (λ (l : m + 16 < slot * 1020). subst Sends (early m slot b bits l) tt)
-      (le-or-lt (slot * 1020) (m + 16))
+      (λ (l : start ≤ m + 16). subst Sends (sym (within m start b bits l (omega arith))) (sends-in (m + 16 - start)))
+      (λ (l : m + 16 < start). subst Sends (early m start b bits l) tt)
+      (le-or-lt (start) (m + 16))
 
 module _ (m slot : ℕ) (b : Bool) (bits : List ℕ) (h : inputRefusal (pos m) slot b bits ≡ 0) where
   -- within the counter's range
-  pub going : (i : ℕ) → m + i < 2 ^ 37 → dueAfter (pos m) slot b bits i ≡ placeDue m slot b bits i
+  pub going : (i : ℕ) → m + i ≤ lastCounter → dueAfter (pos m) slot b bits i ≡ placeDue m (startOf slot) b bits i
   unfolding dueAfter placeDue dueOf dueIf inputRefusal outOfCount
-  going i l = rw (le-ltb 137438953471 (m + i) (omega arith), slot-accepted (pos m) slot b bits h)
+  going i l = rw (le-ltb lastCounter (m + i) (omega arith), slot-accepted (pos m) slot b bits h)
 
-  pub sends : (i : ℕ) → i < leftOf m slot → Sends (dueAfter (pos m) slot b bits i)
+  pub sends : (i : ℕ) → i < leftOf m (startOf slot) → Sends (dueAfter (pos m) slot b bits i)
   unfolding leftOf placeDue
-  sends i l = subst Sends (sym (going i (omega arith))) (sends-at (m + i) slot b bits (omega arith))
+  sends i l = subst Sends (sym (going i (omega arith))) (sends-at (m + i) (startOf slot) b bits (omega arith))
 
   -- the sample behind them
-  over : m + leftOf m slot ≡ 2 ^ 37 → dueAfter (pos m) slot b bits (leftOf m slot) ≡ Refused 2
+  over : m + leftOf m (startOf slot) ≡ counters → dueAfter (pos m) slot b bits (leftOf m (startOf slot)) ≡ Refused 2
   unfolding dueAfter dueOf dueIf inputRefusal outOfCount
-  over e = rw (lt-ltb 137438953471 (m + leftOf m slot) (omega arith))
+  over e = rw (lt-ltb lastCounter (m + leftOf m (startOf slot)) (omega arith))
 
-  past : m + leftOf m slot < 2 ^ 37 → dueAfter (pos m) slot b bits (leftOf m slot) ≡ Refused 12
+  past : m + leftOf m (startOf slot) ≤ lastCounter → dueAfter (pos m) slot b bits (leftOf m (startOf slot)) ≡ Refused 12
   unfolding placeDue leftOf
-  past l = going (leftOf m slot) l ∙ sym (late (m + leftOf m slot) slot b bits (omega arith) (omega arith))
+  past l = going (leftOf m (startOf slot)) l ∙ sym (late (m + leftOf m (startOf slot)) (startOf slot) b bits (omega arith) (omega arith))
 
-  pub ends : (r : ℕ) → m + leftOf m slot ≤ 2 ^ 37 → r ≡ cond (eqb (m + leftOf m slot) (2 ^ 37)) 2 12 → dueAfter (pos m) slot b bits (leftOf m slot) ≡ Refused r
-  ends r h e = go (eqb (m + leftOf m slot) (2 ^ 37)) refl ∙ ap Refused (sym e)
+  pub ends : (r : ℕ) → m + leftOf m (startOf slot) ≤ counters → r ≡ cond (eqb (m + leftOf m (startOf slot)) counters) 2 12 → dueAfter (pos m) slot b bits (leftOf m (startOf slot)) ≡ Refused r
+  ends r h e = go (eqb (m + leftOf m (startOf slot)) counters) refl ∙ ap Refused (sym e)
     where
-      go : (t : Bool) → eqb (m + leftOf m slot) (2 ^ 37) ≡ t → dueAfter (pos m) slot b bits (leftOf m slot) ≡ Refused (cond t 2 12)
-      go true e = over (eqb-true (m + leftOf m slot) (2 ^ 37) e)
+      go : (t : Bool) → eqb (m + leftOf m (startOf slot)) counters ≡ t → dueAfter (pos m) slot b bits (leftOf m (startOf slot)) ≡ Refused (cond t 2 12)
+      go true e = over (eqb-true (m + leftOf m (startOf slot)) counters e)
       go false e =
-          let n = eqb-false (m + leftOf m slot) (2 ^ 37) e in
-          past (⊎-elim (λ (l : 2 ^ 37 ≤ m + leftOf m slot). absurd (n (omega arith))) (λ (l : m + leftOf m slot < 2 ^ 37). l) (le-or-lt (2 ^ 37) (m + leftOf m slot)))
+          let n = eqb-false (m + leftOf m (startOf slot)) counters e in
+          past (⊎-elim (λ (l : counters ≤ m + leftOf m (startOf slot)). absurd (n (omega arith))) (λ (l : m + leftOf m (startOf slot) < counters). omega arith) (le-or-lt counters (m + leftOf m (startOf slot))))
 
-  within-count : (i : ℕ) → i < leftOf m slot → m + i < 2 ^ 37
+  within-count : (i : ℕ) → i < leftOf m (startOf slot) → m + i ≤ lastCounter
   unfolding leftOf
   within-count i l = omega arith
 
@@ -160,25 +160,25 @@ module _ (m slot : ℕ) (b : Bool) (bits : List ℕ) (h : inputRefusal (pos m) s
   behind true e = omega (arith, e)
   behind false e = omega (arith, e)
 
-  stops : (k r : ℕ) (t : Sender) → dueAfter (pos m) slot b bits (leftOf m slot) ≡ Refused r → 0 < r
-      → sentBlock (dueAfter (pos m) slot b bits) (suc k) (leftOf m slot) t ≡ record { outs = []; refusal = r; sender = t }
+  stops : (k r : ℕ) (t : Sender) → dueAfter (pos m) slot b bits (leftOf m (startOf slot)) ≡ Refused r → 0 < r
+      → sentBlock (dueAfter (pos m) slot b bits) (suc k) (leftOf m (startOf slot)) t ≡ record { outs = []; refusal = r; sender = t }
   stops k zero t e h = absurd (omega arith)
-  stops k (suc r) t e h = stopped (dueAfter (pos m) slot b bits) k (leftOf m slot) r t e
+  stops k (suc r) t e h = stopped (dueAfter (pos m) slot b bits) k (leftOf m (startOf slot)) r t e
 
   -- a block that fills its room, and one that ends before
-  pub filled : (room : ℕ) (s : Sender) → room ≤ leftOf m slot → sentBlock (dueAfter (pos m) slot b bits) room 0 s ≡ fedBlock (placeDue m slot b bits) room 0 s
+  pub filled : (room : ℕ) (s : Sender) → room ≤ leftOf m (startOf slot) → sentBlock (dueAfter (pos m) slot b bits) room 0 s ≡ fedBlock (placeDue m (startOf slot) b bits) room 0 s
   unfolding sentBlock
   filled room s l =
       block-sent (dueAfter (pos m) slot b bits) room room 0 0 s (omega arith) (λ j u. sends j (omega arith)) (λ t. refl)
-      ∙ same-block (dueAfter (pos m) slot b bits) (placeDue m slot b bits) room 0 s (λ j u. going j (within-count j (omega arith)))
+      ∙ same-block (dueAfter (pos m) slot b bits) (placeDue m (startOf slot) b bits) room 0 s (λ j u. going j (within-count j (omega arith)))
 
-  pub ended : (room r : ℕ) (s : Sender) → leftOf m slot < room → m + leftOf m slot ≤ 2 ^ 37 → r ≡ cond (eqb (m + leftOf m slot) (2 ^ 37)) 2 12
-      → sentBlock (dueAfter (pos m) slot b bits) room 0 s ≡ fedBlock (placeDue m slot b bits) (leftOf m slot) r s
+  pub ended : (room r : ℕ) (s : Sender) → leftOf m (startOf slot) < room → m + leftOf m (startOf slot) ≤ counters → r ≡ cond (eqb (m + leftOf m (startOf slot)) counters) 2 12
+      → sentBlock (dueAfter (pos m) slot b bits) room 0 s ≡ fedBlock (placeDue m (startOf slot) b bits) (leftOf m (startOf slot)) r s
   ended room r s l u e =
-      let k = room - suc (leftOf m slot) in
-      block-sent (dueAfter (pos m) slot b bits) room (leftOf m slot) (suc k) r s (omega arith) (λ j v. sends j v)
-      (λ t. stops k r t (ends r u e) (behind (eqb (m + leftOf m slot) (2 ^ 37)) e))
-      ∙ same-block (dueAfter (pos m) slot b bits) (placeDue m slot b bits) (leftOf m slot) r s (λ j v. going j (within-count j v))
+      let k = room - suc (leftOf m (startOf slot)) in
+      block-sent (dueAfter (pos m) slot b bits) room (leftOf m (startOf slot)) (suc k) r s (omega arith) (λ j v. sends j v)
+      (λ t. stops k r t (ends r u e) (behind (eqb (m + leftOf m (startOf slot)) counters) e))
+      ∙ same-block (dueAfter (pos m) slot b bits) (placeDue m (startOf slot) b bits) (leftOf m (startOf slot)) r s (λ j v. going j (within-count j v))
 
 -- ---- the filter's block
 
@@ -325,9 +325,9 @@ module _ (due other : ℕ → Due) (k n : ℕ) (h : (j : ℕ) → other j ≡ du
 
 -- ---- what is due later, and no samples
 
-pub due-later : (first slot : ℕ) (b : Bool) (bits : List ℕ) (k j : ℕ) → placeDue (first + k) slot b bits j ≡ placeDue first slot b bits (k + j)
+pub due-later : (first start : ℕ) (b : Bool) (bits : List ℕ) (k j : ℕ) → placeDue (first + k) start b bits j ≡ placeDue first start b bits (k + j)
 unfolding placeDue
-due-later first slot b bits k j =
+due-later first start b bits k j =
     let m : first + k + j ≡ first + (k + j) = omega arith in
     rw m
 
@@ -380,11 +380,11 @@ unfolding blockCall
 room-called due zero s h = absurd (omega arith)
 room-called due (suc room) s h = refl
 
-pub some-left : (m slot : ℕ) (b : Bool) (bits : List ℕ) → inputRefusal (pos m) slot b bits ≡ 0 → m < 2 ^ 37 → refusalOf (dueOf (pos m) slot b bits) ≡ 0 → 0 < leftOf m slot
+pub some-left : (m slot : ℕ) (b : Bool) (bits : List ℕ) → inputRefusal (pos m) slot b bits ≡ 0 → m ≤ lastCounter → refusalOf (dueOf (pos m) slot b bits) ≡ 0 → 0 < leftOf m (startOf slot)
 unfolding refusalOf
-some-left m slot b bits h l e = go (leftOf m slot) refl
+some-left m slot b bits h l e = go (leftOf m (startOf slot)) refl
   where
-    go : (n : ℕ) → leftOf m slot ≡ n → 0 < n
+    go : (n : ℕ) → leftOf m (startOf slot) ≡ n → 0 < n
     go (suc n) f = omega arith
     go zero f =
         let d = past m slot b bits h (omega arith) in
@@ -394,9 +394,9 @@ pub fed-count : (due : ℕ → Due) (n r count refusal : ℕ) (s t : Sender) (ou
 unfolding fedBlock
 fed-count due n r count refusal s t out out′ w = w .counted ∙ length-outs (s .line) (inputsOf due n 0 (s .phase)) ∙ inputs-length due n 0 (s .phase)
 
-pub count-within : (m slot : ℕ) → m < 2 ^ 37 → m + leftOf m slot ≤ 2 ^ 37
+pub count-within : (m start : ℕ) → m ≤ lastCounter → m + leftOf m start ≤ counters
 unfolding leftOf
-count-within m slot h = omega arith
+count-within m start h = omega arith
 
 -- ---- a block is no longer than its room
 

@@ -3,10 +3,11 @@ use mathlib.Core.Path.{_≡_}
 use mathlib.Core.Bool.{Bool, true, false}
 use Prim.Native.Nat.{ℕ, _+_, _%_, _≤_}
 use native.Mathlib.Omega.{arith}
-use Rattle.modulator.specs.Dqpsk.{turnOf, nextPhase}
+use Rattle.dsp_types.specs.Phases.{phaseOf, modulo8}
+use Rattle.modulator.specs.Dqpsk.{bitOf, turnOf, nextPhase}
 
 pub turn-small : (bit0 bit1 : Bool) → turnOf bit0 bit1 ≤ 7
-unfolding turnOf
+unfolding bitOf phaseOf modulo8 turnOf
 turn-small true true = omega arith
 turn-small true false = omega arith
 turn-small false true = omega arith

@@ -1,7 +1,7 @@
 -- What is due, by the tests that the code makes. Assumes nothing.
 use mathlib.Core.Path.{_≡_, refl, sym, _∙_}
 use mathlib.Core.Bool.{Bool, true, false, not, _||_, cond}
-use Prim.Native.Nat.{ℕ, zero, suc, _+_, _-_, _*_, _/_, _%_, _<_, _≤_, _^_}
+use Prim.Native.Nat.{ℕ, zero, suc, _+_, _-_, _*_, _/_, _%_, _<_, _≤_}
 use native.Mathlib.Omega.{arith}
 use mathlib.Core.List.{List}
 use lib.Dec.{eqb}
@@ -10,7 +10,7 @@ use lib.ListN.{getD, length}
 use lib.Signed.{mag, ltZ}
 use borrow.Author.Tests.{ltb-false, lt-ltb, le-ltb, eq-eqb, ne-eqb, eqb-true}
 use Rattle.dsp_types.specs.Ints.{less, same}
-use Rattle.dsp_types.specs.Refusals.{outOfCount, wrongLength, notBits}
+use Rattle.dsp_types.specs.Refusals.{lastCounter, outOfCount, wrongLength, notBits}
 use Rattle.modulator.specs.declared.due.Due.{Due}
 use Rattle.modulator.specs.declared.due.Due.the-variants.{Refused, Silence, Symbol}
 use Rattle.modulator.specs.Sender.{bitsRefusal, slotRefusal, inputRefusal, placeIn, symbolAt, dueIn, dueAt, dueIf, Bits}
@@ -20,7 +20,7 @@ true-ne e = let z : _≡_ {A = ℕ} 0 1 = cc in omega arith
 
 -- ---- refusals from the input
 
-pub out-of-count : (c : ℤ) → (ltZ c (pos 0) || ltZ (pos 137438953471) c) ≡ outOfCount c
+pub out-of-count : (c : ℤ) → (ltZ c (pos 0) || ltZ (pos lastCounter) c) ≡ outOfCount c
 unfolding outOfCount
 out-of-count (pos n) = rw (le-ltb n 0 (omega arith))
 out-of-count (negsuc n) = refl
@@ -62,12 +62,12 @@ module _ (c : ℤ) (slot : ℕ) (b : Bool) (bits : List ℕ) (h : inputRefusal c
       go true e = absurd (omega (arith, rw e at h))
       go false e = refl
 
-  pub accepted-count : (c ≡ pos (mag c)) × (mag c < 2 ^ 37)
+  pub accepted-count : (c ≡ pos (mag c)) × (mag c ≤ lastCounter)
   unfolding outOfCount
   accepted-count = go c counted
     where
-      go : (z : ℤ) → outOfCount z ≡ false → (z ≡ pos (mag z)) × (mag z < 2 ^ 37)
-      go (pos n) e = (refl, omega (arith, ltb-false 137438953471 n e))
+      go : (z : ℤ) → outOfCount z ≡ false → (z ≡ pos (mag z)) × (mag z ≤ lastCounter)
+      go (pos n) e = (refl, omega (arith, ltb-false lastCounter n e))
       go (negsuc n) e = absurd (true-ne e)
 
   pub slot-accepted : slotRefusal slot (bitsRefusal b bits) ≡ 0
@@ -92,27 +92,27 @@ module _ (c : ℤ) (slot : ℕ) (b : Bool) (bits : List ℕ) (h : inputRefusal c
 
 -- ---- what is due in a slot
 
-module _ (n slot : ℕ) where
-  place-early : n + 16 < slot * 1020 → placeIn (pos n) slot ≡ negsuc (slot * 1020 - suc (n + 16))
+module _ (n start : ℕ) where
+  place-early : n + 16 < start → placeIn (pos n) start ≡ negsuc (start - suc (n + 16))
   unfolding placeIn
-  place-early h = same _ _ (omega (arith, less (pos (n + 16)) (pos (slot * 1020))))
+  place-early h = same _ _ (omega (arith, less (pos (n + 16)) (pos (start))))
 
-  place-within : slot * 1020 ≤ n + 16 → placeIn (pos n) slot ≡ pos (n + 16 - slot * 1020)
+  place-within : start ≤ n + 16 → placeIn (pos n) start ≡ pos (n + 16 - start)
   unfolding placeIn
-  place-within h = same _ _ (omega (arith, less (pos (n + 16)) (pos (slot * 1020))))
+  place-within h = same _ _ (omega (arith, less (pos (n + 16)) (pos (start))))
 
   module _ (b : Bool) (bits : List ℕ) where
-    pub early : n + 16 < slot * 1020 → Silence ≡ dueAt b bits (placeIn (pos n) slot)
+    pub early : n + 16 < start → Silence ≡ dueAt b bits (placeIn (pos n) start)
     unfolding dueAt
     early h = rw (place-early h)
 
-    pub late : slot * 1020 ≤ n + 16 → 1020 ≤ n + 16 - slot * 1020 → Refused 12 ≡ dueAt b bits (placeIn (pos n) slot)
+    pub late : start ≤ n + 16 → 1020 ≤ n + 16 - start → Refused 12 ≡ dueAt b bits (placeIn (pos n) start)
     unfolding dueAt
-    late h k = rw (place-within h, le-ltb (n + 16 - slot * 1020) 1020 k)
+    late h k = rw (place-within h, le-ltb (n + 16 - start) 1020 k)
 
-    pub within : slot * 1020 ≤ n + 16 → n + 16 - slot * 1020 < 1020 → dueAt b bits (placeIn (pos n) slot) ≡ dueIn b bits (n + 16 - slot * 1020)
+    pub within : start ≤ n + 16 → n + 16 - start < 1020 → dueAt b bits (placeIn (pos n) start) ≡ dueIn b bits (n + 16 - start)
     unfolding dueAt
-    within h k = rw (place-within h, lt-ltb (n + 16 - slot * 1020) 1020 k)
+    within h k = rw (place-within h, lt-ltb (n + 16 - start) 1020 k)
 
 absent-in : (b : Bool) (bits : List ℕ) (p : ℕ) → not b ≡ true → Silence ≡ dueIn b bits p
 unfolding dueIn
@@ -129,19 +129,19 @@ unfolding dueIn
 symbol-in true bits p e h = rw (eq-eqb (p % 4) 0 h)
 symbol-in false bits p e h = absurd (true-ne e)
 
-module _ (n slot : ℕ) (b : Bool) (bits : List ℕ) (h : slot * 1020 ≤ n + 16) (k : n + 16 - slot * 1020 < 1020) where
-  pub absent : not b ≡ true → Silence ≡ dueAt b bits (placeIn (pos n) slot)
-  absent e = absent-in b bits _ e ∙ sym (within n slot b bits h k)
+module _ (n start : ℕ) (b : Bool) (bits : List ℕ) (h : start ≤ n + 16) (k : n + 16 - start < 1020) where
+  pub absent : not b ≡ true → Silence ≡ dueAt b bits (placeIn (pos n) start)
+  absent e = absent-in b bits _ e ∙ sym (within n start b bits h k)
 
-  pub between : not b ≡ false → ((n + 16 - slot * 1020) % 4 ≡ 0 → ⊥) → Silence ≡ dueAt b bits (placeIn (pos n) slot)
-  between e f = between-in b bits _ e f ∙ sym (within n slot b bits h k)
+  pub between : not b ≡ false → ((n + 16 - start) % 4 ≡ 0 → ⊥) → Silence ≡ dueAt b bits (placeIn (pos n) start)
+  between e f = between-in b bits _ e f ∙ sym (within n start b bits h k)
 
-  pub symbol : not b ≡ false → (n + 16 - slot * 1020) % 4 ≡ 0 → (i : ℕ) → i ≡ (n + 16 - slot * 1020) / 4 * 2
-      → Symbol (not (eqb (getD bits i 0) 0)) (not (eqb (getD bits (i + 1) 0) 0)) ≡ dueAt b bits (placeIn (pos n) slot)
+  pub symbol : not b ≡ false → (n + 16 - start) % 4 ≡ 0 → (i : ℕ) → i ≡ (n + 16 - start) / 4 * 2
+      → Symbol (not (eqb (getD bits i 0) 0)) (not (eqb (getD bits (i + 1) 0) 0)) ≡ dueAt b bits (placeIn (pos n) start)
   unfolding symbolAt
   symbol e f i g =
-      let j : i ≡ 2 * ((n + 16 - slot * 1020) / 4) = omega (arith, g) in
-      rw j (symbol-in b bits _ e f ∙ sym (within n slot b bits h k))
+      let j : i ≡ 2 * ((n + 16 - start) / 4) = omega (arith, g) in
+      rw j (symbol-in b bits _ e f ∙ sym (within n start b bits h k))
 
 pub refused : (n : ℕ) (d : Due) → (n ≡ 0 → ⊥) → Refused n ≡ dueIf n d
 unfolding dueIf

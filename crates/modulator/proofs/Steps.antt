@@ -1,5 +1,5 @@
 -- A call, from what is due, what it makes of the phase, and what the filter makes of it. Assumes nothing.
-use mathlib.Core.Path.{_≡_, refl, sym, ap, _∙_}
+use mathlib.Core.Path.{_≡_, refl, sym, ap, subst, _∙_}
 use mathlib.Core.Bool.{Bool}
 use mathlib.Core.List.{List, [], _∷_}
 use Prim.Native.Nat.{ℕ}
@@ -13,6 +13,7 @@ use Rattle.modulator.specs.declared.mapper.DqpskMapper.{DqpskMapper}
 use Rattle.modulator.specs.declared.sender.Answer.{Answer}
 use Rattle.modulator.specs.declared.sender.Answer.the-variants as answer
 use Rattle.modulator.specs.declared.sender.Sampled.{Sampled}
+use Rattle.modulator.specs.declared.sender.Stepped.{Stepped as Beside}
 use Rattle.modulator.specs.declared.sender.Modulator.{Modulator}
 use Rattle.modulator.specs.Dqpsk.{phaseAfter, inputOf}
 use Rattle.modulator.specs.Sender.{Told, told, shapedOf, toldOf, nextLine, senderOf, tells, after, fedBy}
@@ -73,3 +74,12 @@ sent m h d e k x r p s f =
     let line = f .1 ∙ (λ i. nextLine (lineOf (m .filter)) (y i) (p i)) in
     let phase = s .0 ∙ ap (phaseAfter (h .phase)) p in
     (f .0 ∙ (λ i. toldOf (lineOf (m .filter)) (y i) (p i)), λ i. record { line = line i; phase = phase i }, λ n a. unchanged m h d k x r n s f a)
+
+-- the same call with the phase record beside the answer
+abbrev pub SentBeside : Modulator → DqpskMapper → Due → Beside → Type 0
+SentBeside m h d y = (told (y .answer) ≡ tells (senderOf m h) d) × (senderOf (y .modulator) (y .mapper) ≡ after (senderOf m h) d)
+    × ((n : ℕ) → y .answer ≡ answer.Refused n → (y .modulator ≡ m) × (y .mapper ≡ h))
+
+pub beside : (m : Modulator) (h : DqpskMapper) (d : Due) (k : DqpskMapper) (r : Sampled) (y : Beside) → Sent m h d k r
+    → y ≡ record { answer = r .answer; modulator = r .modulator; mapper = k } → SentBeside m h d y
+beside m h d k r y s e = subst (SentBeside m h d) (sym e) s

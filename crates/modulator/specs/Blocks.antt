@@ -1,5 +1,5 @@
 -- A block call (01, "The sender"): the calls of its samples, one by one, up to the first that is refused. Definitions only.
-use Prim.Native.Nat.{ℕ, zero, suc, _+_, _-_, _*_, _^_, min}
+use Prim.Native.Nat.{ℕ, zero, suc, _+_, _-_, min}
 use mathlib.Core.Path.{_≡_}
 use mathlib.Core.Bool.{Bool}
 use mathlib.Core.List.{List, [], _∷_, _++_}
@@ -7,7 +7,7 @@ use lib.IntN.{ℤ, pos, _+ℤ_}
 use lib.ListN.{length}
 use lib.Ieee.{Float}
 use Rattle.dsp_types.specs.declared.ComplexSample.{ComplexSample}
-use Rattle.dsp_types.specs.Refusals.{accepted}
+use Rattle.dsp_types.specs.Refusals.{accepted, counters}
 use Rattle.fir.specs.Fir.{lineAfter, outsOf, startWith}
 use Rattle.modulator.specs.declared.due.Due.{Due}
 use Rattle.modulator.specs.Dqpsk.{phaseAfter, inputOf}
@@ -56,9 +56,9 @@ pub record Wrote (b : Block) (count refusal : ℕ) (sender : Sender) (out out′
 
 -- ---- samples that are not refused
 
--- what is due i samples after an accepted one
+-- what is due i samples after an accepted one, in a slot that starts there
 unfoldable pub placeDue : ℕ → ℕ → Bool → List ℕ → ℕ → Due
-placeDue first slot hasBits bits i = dueAt hasBits bits (placeIn (pos (first + i)) slot)
+placeDue first start hasBits bits i = dueAt hasBits bits (placeIn (pos (first + i)) start)
 
 -- what the filter is fed for n samples
 unfoldable pub inputsOf : (ℕ → Due) → ℕ → ℕ → ℕ → List ComplexSample
@@ -79,6 +79,6 @@ fedBlock due n r s =
       sender = record { line = lineAfter (s .line) (inputsOf due n 0 (s .phase)); phase = phasesOf due n 0 (s .phase) };
     }
 
--- how many samples there are before the counter or the slot ends
+-- how many samples there are before the counter or the slot that starts there ends
 unfoldable pub leftOf : ℕ → ℕ → ℕ
-leftOf counter slot = min (2 ^ 37 - counter) (slot * 1020 + 1020 - (counter + 16))
+leftOf counter start = min (counters - counter) (start + 1020 - (counter + 16))

@@ -1,20 +1,23 @@
 -- The mapper (01, "Burst bits", "The sender"; modulator.rs, `DqpskMapper::symbol`): phases in eighths of a turn, and their points. Definitions only.
-use Prim.Native.Nat.{ℕ, _+_, _-_, _%_}
+use Prim.Native.Nat.{ℕ, _+_, _%_}
 use mathlib.Core.Bool.{Bool, true, false}
 use mathlib.Core.List.{List, [], _∷_}
 use lib.ListN.{getD}
 use lib.Ieee.{Float, binary32, nan, ofBits}
 use Rattle.dsp_types.specs.declared.ComplexSample.{ComplexSample}
+use Rattle.dsp_types.specs.Phases.{phaseOf, modulo8}
 use Rattle.dsp_types.specs.Samples.{silence}
 use Rattle.modulator.specs.declared.due.Due.{Due}
 use Rattle.modulator.specs.declared.due.Due.the-variants.{Refused, Silence, Symbol}
 
--- the phase of a symbol's two bits, modulo 8: 00 +1, 01 +3, 10 −1, 11 −3 (EN 300 392-2, clause 5.4)
+-- a bit as a bit byte (01, "Refusals", 4)
+unfoldable pub bitOf : Bool → ℕ
+bitOf false = 0
+bitOf true = 1
+
+-- the phase of a symbol's two bits, modulo 8 (01, "The sender")
 unfoldable pub turnOf : Bool → Bool → ℕ
-turnOf false false = 1
-turnOf false true = 3
-turnOf true false = 8 - 1
-turnOf true true = 8 - 3
+turnOf bit0 bit1 = modulo8 (phaseOf (bitOf bit0) (bitOf bit1))
 
 -- the phase after a symbol
 unfoldable pub nextPhase : ℕ → Bool → Bool → ℕ

@@ -9,6 +9,7 @@ use lib.ListN.{getD, length, take, replicate}
 use Rattle.dsp_types.specs.declared.ComplexSample.{ComplexSample}
 use Rattle.dsp_types.specs.Refusals.{accepted, badCounter, badLength, badBit, badSlot, needMoreData, outOfCount, wrongLength, notBits}
 use Rattle.dsp_types.specs.Samples.{silence, ago}
+use Rattle.dsp_types.specs.Times.{slots}
 use Rattle.fir.specs.Fir.{filterOf, lineOf}
 use Rattle.modulator.specs.declared.due.Due.{Due}
 use Rattle.modulator.specs.declared.due.Due.the-variants.{Refused, Silence, Symbol}
@@ -27,7 +28,7 @@ bitsRefusal true bits = cond (wrongLength 510 bits) badLength (cond (notBits bit
 
 -- a refusal of the bits has a smaller number than one of the slot
 unfoldable pub slotRefusal : ℕ → ℕ → ℕ
-slotRefusal slot zero = cond (ltb 283115519 slot) badSlot accepted
+slotRefusal slot zero = cond (ltb slot slots) accepted badSlot
 slotRefusal slot (suc n) = suc n
 
 -- the smallest number that holds of a call's input
@@ -36,9 +37,13 @@ inputRefusal counter slot hasBits bits = cond (outOfCount counter) badCounter (s
 
 -- ---- what is due
 
--- where in the slot the sample stands: the filter's delay is 16 samples, and a slot has 1,020
+-- the counter of a slot's first sample (01, "Times": a slot has 1,020; modulator.rs, `slot_begin`)
+unfoldable pub startOf : ℕ → ℕ
+startOf slot = slot * 1020
+
+-- where in the slot that starts there the sample stands: the filter's delay is 16 samples (modulator.rs, `sample_in_slot`)
 unfoldable pub placeIn : ℤ → ℕ → ℤ
-placeIn counter slot = counter +ℤ pos 16 -ℤ pos (slot * 1020)
+placeIn counter start = counter +ℤ pos 16 -ℤ pos start
 
 -- the symbol that starts at place n of a slot, at every fourth sample
 unfoldable pub symbolAt : List ℕ → ℕ → Due
@@ -60,7 +65,7 @@ dueIf (suc n) due = Refused (suc n)
 
 -- what is due in a call
 unfoldable pub dueOf : ℤ → ℕ → Bool → List ℕ → Due
-dueOf counter slot hasBits bits = dueIf (inputRefusal counter slot hasBits bits) (dueAt hasBits bits (placeIn counter slot))
+dueOf counter slot hasBits bits = dueIf (inputRefusal counter slot hasBits bits) (dueAt hasBits bits (placeIn counter (startOf slot)))
 
 -- the number by which a call is refused, or 0
 unfoldable pub refusalOf : Due → ℕ

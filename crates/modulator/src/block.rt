@@ -1,10 +1,12 @@
 // A block of samples in one call, for gateways: what the calls one by one would send.
 use crate::due::due_at;
 use crate::due::refusal_now;
+use crate::due::start_of;
 use crate::mapper::DqpskMapper;
 use crate::mapper::input;
 use crate::mapper::phase_after;
 use crate::sender::Modulator;
+use dsp_types::ACCEPTED;
 use dsp_types::BAD_COUNTER;
 use dsp_types::COUNTERS;
 use dsp_types::NEED_MORE_DATA;
@@ -16,6 +18,7 @@ ghost use mathlib.Core.Bool.{cond};
 ghost use Prim.Native.Nat.{_+_, _*_, _/_, _≤_, _<_, _^_};
 ghost use lib.Dec.{eqb};
 ghost use lib.ListN.{length, take};
+ghost use Rattle.dsp_types.specs.Refusals.{badCounter, needMoreData, lastCounter, counters};
 ghost use Rattle.fir.specs.Fir.{samplesOf, startWith, reOf, imOf};
 ghost use Rattle.modulator.specs.Sender.{Bits, senderOf};
 ghost use Rattle.modulator.specs.Blocks.{dueAfter, blockCall, partsOf, Wrote, placeDue, inputsOf, phasesOf, fedBlock, leftOf};
@@ -36,11 +39,11 @@ struct Piece {
 }
 
 // How many samples there are before the counter or the slot ends.
-fn left(counter: u64, slot: u32) -> usize
-    requires { ⌜ counter < 2 ^ 37 ⌝ }
-    ensures { λ r. ⌜ r ≡ leftOf counter slot ⌝ }
+fn left(counter: u64, start: u64) -> usize
+    requires { ⌜ (counter ≤ lastCounter) × (start < 2 ^ 42) ⌝ }
+    ensures { λ r. ⌜ r ≡ leftOf counter start ⌝ }
 {
-    let end = slot as u64 * 1020 + 1020;
+    let end = start + 1020;
     let counted = (COUNTERS - counter) as usize;
     if end <= counter + 16 {
         return 0;
@@ -50,8 +53,8 @@ fn left(counter: u64, slot: u32) -> usize
 
 // The refusal of the sample behind them.
 fn end_refusal(counter: u64, left: usize) -> u32
-    requires { ⌜ counter + left ≤ 2 ^ 37 ⌝ }
-    ensures { λ r. ⌜ r ≡ cond (eqb (counter + left) (2 ^ 37)) 2 12 ⌝ }
+    requires { ⌜ counter + left ≤ counters ⌝ }
+    ensures { λ r. ⌜ r ≡ cond (eqb (counter + left) counters) badCounter needMoreData ⌝ }
 {
     if counter + left as u64 == COUNTERS {
         BAD_COUNTER
@@ -67,20 +70,20 @@ fn fill(
     count: usize,
     phase: u8,
     counter: u64,
-    slot: u32,
+    start: u64,
     has_bits: bool,
     bits: &[u8],
 ) -> u8
-    requires { ⌜ (count ≤ length (now re)) × (count ≤ length (now im)) × (counter + count ≤ 2 ^ 37) × Bits «has_bits» (now bits) ⌝ }
+    requires { ⌜ (count ≤ length (now re)) × (count ≤ length (now im)) × (counter + count ≤ counters) × Bits «has_bits» (now bits) ⌝ }
     ensures { λ r. ⌜
-        (let due = placeDue counter slot «has_bits» (now (bits .entry)) in
+        (let due = placeDue counter start «has_bits» (now (bits .entry)) in
         (r ≡ phasesOf due count 0 phase)
         × ((take count (now (re .exit)) ≡ reOf (inputsOf due count 0 phase))
         × (take count (now (im .exit)) ≡ imOf (inputsOf due count 0 phase)))) ⌝ }
 {
     let mut next = phase;
     for n in 0..count {
-        let due = due_at(counter + n as u64, slot, has_bits, bits);
+        let due = due_at(counter + n as u64, start, has_bits, bits);
         next = phase_after(next, due);
         let x = input(next, due);
         re[n] = x.re;
@@ -107,13 +110,13 @@ impl Modulator {
         mapper: DqpskMapper,
         count: usize,
         counter: u64,
-        slot: u32,
+        start: u64,
         has_bits: bool,
         bits: &[u8],
         out: &mut [f32],
     ) -> Piece
-        requires { ⌜ (count ≤ 256) × (2 * count ≤ length (now out)) × (counter + count ≤ 2 ^ 37) × Bits «has_bits» (now bits) ⌝ }
-        ensures { λ r. ⌜ Wrote (fedBlock (placeDue counter slot «has_bits» (now (bits .entry))) count 0 (senderOf self mapper))
+        requires { ⌜ (count ≤ 256) × (2 * count ≤ length (now out)) × (counter + count ≤ counters) × Bits «has_bits» (now bits) ⌝ }
+        ensures { λ r. ⌜ Wrote (fedBlock (placeDue counter start «has_bits» (now (bits .entry))) count 0 (senderOf self mapper))
             count 0 (senderOf (r .modulator) (r .mapper)) (now (out .entry)) (now (out .exit)) ⌝ }
     {
         let mut re = [0.0f32; 256];
@@ -124,7 +127,7 @@ impl Modulator {
             count,
             mapper.phase,
             counter,
-            slot,
+            start,
             has_bits,
             bits,
         );
@@ -146,13 +149,13 @@ impl Modulator {
         count: usize,
         refusal: u32,
         counter: u64,
-        slot: u32,
+        start: u64,
         has_bits: bool,
         bits: &[u8],
         out: &mut [f32],
     ) -> Sent
-        requires { ⌜ (2 * count ≤ length (now out)) × (counter + count ≤ 2 ^ 37) × Bits «has_bits» (now bits) ⌝ }
-        ensures { λ r. ⌜ Wrote (fedBlock (placeDue counter slot «has_bits» (now (bits .entry))) count refusal (senderOf self mapper))
+        requires { ⌜ (2 * count ≤ length (now out)) × (counter + count ≤ counters) × Bits «has_bits» (now bits) ⌝ }
+        ensures { λ r. ⌜ Wrote (fedBlock (placeDue counter start «has_bits» (now (bits .entry))) count refusal (senderOf self mapper))
             (r .count) (r .refusal) (senderOf (r .modulator) (r .mapper)) (now (out .entry)) (now (out .exit)) ⌝ }
     {
         let mut modulator = self;
@@ -161,7 +164,7 @@ impl Modulator {
         while done < count {
             let n = least(256, count - done);
             let at = counter + done as u64;
-            let next = modulator.piece(phase, n, at, slot, has_bits, bits, &mut out[2 * done..]);
+            let next = modulator.piece(phase, n, at, start, has_bits, bits, &mut out[2 * done..]);
             modulator = next.modulator;
             phase = next.mapper;
             done = done + n;
@@ -193,7 +196,7 @@ impl Modulator {
     {
         let room = out.len() / 2;
         let refusal = refusal_now(sample_counter, slot, has_bits, bits);
-        if (refusal != 0) | (room == 0) {
+        if (refusal != ACCEPTED) | (room == 0) {
             return Sent {
                 count: 0,
                 refusal,
@@ -202,11 +205,12 @@ impl Modulator {
             };
         }
         let counter = dsp_types::unsigned(sample_counter.0);
-        let left = left(counter, slot.0);
+        let start = start_of(slot);
+        let left = left(counter, start);
         if room <= left {
-            return self.send(mapper, room, 0, counter, slot.0, has_bits, bits, out);
+            return self.send(mapper, room, ACCEPTED, counter, start, has_bits, bits, out);
         }
         let end = end_refusal(counter, left);
-        self.send(mapper, left, end, counter, slot.0, has_bits, bits, out)
+        self.send(mapper, left, end, counter, start, has_bits, bits, out)
     }
 }

@@ -12,9 +12,8 @@ use dsp_types::TdmaTime;
 ghost use mathlib.Core.Path.{_≡_};
 ghost use Prim.Native.Nat.{_≤_, _<_, _^_};
 ghost use lib.IntN.{pos};
-ghost use lib.ListN.{length};
-ghost use Rattle.dsp_types.specs.Refusals.{outOfCount};
-ghost use Rattle.modulator.specs.Sender.{bitsRefusal, inputRefusal, placeIn, dueAt, dueOf, refusalOf, Bits};
+ghost use Rattle.dsp_types.specs.Refusals.{lastCounter, outOfCount};
+ghost use Rattle.modulator.specs.Sender.{bitsRefusal, inputRefusal, startOf, placeIn, dueAt, dueOf, refusalOf, Bits};
 
 pub enum Due {
     Refused(u32),
@@ -60,17 +59,23 @@ fn input_refusal(counter: i64, slot: u32, has_bits: bool, bits: &[u8]) -> u32
     ACCEPTED
 }
 
-// What is due under an accepted counter: the filter's delay of 16 samples is made up for.
-pub(crate) fn due_at(counter: u64, slot: u32, has_bits: bool, bits: &[u8]) -> Due
-    requires { ⌜ (counter < 2 ^ 37) × Bits «has_bits» (now bits) ⌝ }
-    ensures { λ r. ⌜ r ≡ dueAt «has_bits» (now (bits .entry)) (placeIn (pos counter) slot) ⌝ }
+// The counter of a slot's first sample. Its bound keeps the slot's end from wrapping.
+pub(crate) fn start_of(slot: TdmaTime) -> u64
+    ensures { λ r. ⌜ (r ≡ startOf (slot .0)) × (r < 2 ^ 42) ⌝ }
+{
+    slot.0 as u64 * 1020
+}
+
+// What is due under an accepted counter, in a slot that starts there: the filter's delay of 16 samples is made up for.
+pub(crate) fn due_at(counter: u64, start: u64, has_bits: bool, bits: &[u8]) -> Due
+    requires { ⌜ (counter ≤ lastCounter) × Bits «has_bits» (now bits) ⌝ }
+    ensures { λ r. ⌜ r ≡ dueAt «has_bits» (now (bits .entry)) (placeIn (pos counter) start) ⌝ }
 {
     let now = counter + 16;
-    let begin = slot as u64 * 1020;
-    if now < begin {
+    if now < start {
         return Due::Silence;
     }
-    let place = now - begin;
+    let place = now - start;
     if 1020 <= place {
         return Due::Refused(NEED_MORE_DATA);
     }
@@ -91,7 +96,12 @@ pub(crate) fn due_now(counter: SampleCount, slot: TdmaTime, has_bits: bool, bits
     if refusal != ACCEPTED {
         return Due::Refused(refusal);
     }
-    due_at(dsp_types::unsigned(counter.0), slot.0, has_bits, bits)
+    due_at(
+        dsp_types::unsigned(counter.0),
+        start_of(slot),
+        has_bits,
+        bits,
+    )
 }
 
 // The number by which a call is refused, or 0.

@@ -2,8 +2,6 @@
 use crate::due::Due;
 use crate::due::due_now;
 use crate::mapper::DqpskMapper;
-use crate::mapper::input;
-use crate::mapper::phase_after;
 use dsp_types::ComplexSample;
 use dsp_types::SampleCount;
 use dsp_types::TdmaTime;
@@ -38,6 +36,21 @@ pub struct Stepped {
     pub mapper: DqpskMapper,
 }
 
+impl Sampled {
+    // The same answer and state, and the phase record.
+    fn beside(self, mapper: DqpskMapper) -> Stepped
+        ensures { λ r. ⌜ r ≡ record { answer = self .answer; modulator = self .modulator; mapper = mapper } ⌝ }
+    {
+        let answer = self.answer;
+        let modulator = self.modulator;
+        Stepped {
+            answer,
+            modulator,
+            mapper,
+        }
+    }
+}
+
 impl Modulator {
     pub fn new() -> Modulator
         ensures { λ r. ⌜ lineOf (r .filter) ≡ replicate 32 silence ⌝ }
@@ -64,8 +77,8 @@ impl Modulator {
         }
     }
 
-    // What is due goes through the filter. A refusal leaves the filter as it is.
-    pub(crate) fn feed(self, due: Due, input: ComplexSample) -> Sampled
+    // Transmits what is due: its input goes through the filter. A refusal leaves the filter as it is.
+    fn transmit(self, due: Due, input: ComplexSample) -> Sampled
         ensures { λ r. ⌜ (told (r .answer) ≡ toldOf (lineOf (self .filter)) input due)
             × (lineOf (r .modulator .filter) ≡ nextLine (lineOf (self .filter)) input due)
             × ((n : ℕ) → due ≡ Due.Refused n → r .modulator ≡ self) ⌝ }
@@ -97,13 +110,13 @@ impl Modulator {
     {
         let d = due_now(sample_counter, slot, has_bits, bits);
         let input = mapper.symbol(d);
-        self.feed(d, input)
+        self.transmit(d, input)
     }
 
-    // The same with the phase record by value, for callers that keep it beside the state.
+    // `sample` with the phase record by value, for callers that keep it beside the state.
     pub fn step(
         self,
-        mapper: DqpskMapper,
+        mut mapper: DqpskMapper,
         sample_counter: SampleCount,
         slot: TdmaTime,
         has_bits: bool,
@@ -115,15 +128,7 @@ impl Modulator {
             × (senderOf (r .modulator) (r .mapper) ≡ after (senderOf self mapper) d)
             × ((n : ℕ) → r .answer ≡ Answer.Refused n → (r .modulator ≡ self) × (r .mapper ≡ mapper))) ⌝ }
     {
-        let d = due_now(sample_counter, slot, has_bits, bits);
-        let phase = phase_after(mapper.phase, d);
-        let sampled = self.feed(d, input(phase, d));
-        let answer = sampled.answer;
-        let modulator = sampled.modulator;
-        Stepped {
-            answer,
-            modulator,
-            mapper: DqpskMapper { phase },
-        }
+        let sampled = self.sample(&mut mapper, sample_counter, slot, has_bits, bits);
+        sampled.beside(mapper)
     }
 }

@@ -9,7 +9,8 @@ use lib.IntN.{ℤ, pos, negsuc, _+ℤ_, subℕ}
 use lib.ListN.{length}
 use lib.Dec.{ltb, eqb}
 use borrow.Author.Tests.{ltb-true, ltb-false}
-use Rattle.slotter.specs.Phases.{phaseOf, phaseSum, modulo8, closes, adjustment}
+use Rattle.dsp_types.specs.Phases.{phaseOf, modulo8}
+use Rattle.slotter.specs.Phases.{phaseSum, closes, adjustment}
 
 sub-modulo : (a b : ℕ) → modulo8 (subℕ a (suc b)) ≡ (a % 8 + (7 - b % 8)) % 8
 unfolding modulo8

@@ -12,7 +12,8 @@ use lib.Signed.{mag, remZ, quotZ, ltZ}
 use mir.Syntax.{w32}
 use mir.Val.{SFits, toZ, ofZ}
 use mir.ValLaws.{toZ-ofZ}
-use Rattle.slotter.specs.Phases.{phaseOf, phaseSum, modulo8, closes, adjustment}
+use Rattle.dsp_types.specs.Phases.{phaseOf, modulo8}
+use Rattle.slotter.specs.Phases.{phaseSum, closes, adjustment}
 use Rattle.slotter.proofs.Adjustment.{adjustmentAt, adjustment-at, odd-cases, modulo8-lt}
 
 -- what the code's three branches make of a remainder

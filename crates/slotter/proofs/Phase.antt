@@ -11,7 +11,8 @@ use lib.Seq.{drop-cons}
 use mir.Syntax.{w32}
 use mir.Val.{SFits}
 use Rattle.dsp_types.specs.Ints.{up, dn, sum}
-use Rattle.slotter.specs.Phases.{phaseOf, phaseSum}
+use Rattle.dsp_types.specs.Phases.{phaseOf}
+use Rattle.slotter.specs.Phases.{phaseSum}
 
 pub phase-01 : (b : ℕ) → (b ≡ 0 → ⊥) → pos 3 ≡ phaseOf 0 b
 unfolding phaseOf

@@ -8,7 +8,8 @@ use lib.ListN.{length, take, drop, length-append, take-append-drop, length-drop}
 use lib.Seq.{slice, take-at, drop-at, length-take-le}
 use Rattle.dsp_types.specs.Refusals.{accepted}
 use Rattle.train_consts.specs.Training.{normal3, synchronization, frequencyCorrection}
-use Rattle.slotter.specs.Phases.{phaseSum, modulo8, adjustment}
+use Rattle.dsp_types.specs.Phases.{modulo8}
+use Rattle.slotter.specs.Phases.{phaseSum, adjustment}
 use Rattle.slotter.specs.Bursts.{firstWindow, lastWindow, downlink, syncFields, normalFields, trainingOf, trainingRefusal, syncBurst, normalBurst}
 use Rattle.slotter.specs.Places.{symbols, Adjusts, SyncPlaces, NormalPlaces}
 use Rattle.slotter.proofs.Adjustment.{adjustment-closes, adjustment-only}

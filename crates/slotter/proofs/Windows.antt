@@ -6,7 +6,8 @@ use native.Mathlib.Nat.{sub-zero}
 use native.Mathlib.Omega.{arith}
 use lib.ListN.{length, take, drop, length-drop}
 use lib.Seq.{take-take, take-nil, drop-drop, length-take-le}
-use Rattle.slotter.specs.Phases.{phaseSum, modulo8}
+use Rattle.dsp_types.specs.Phases.{modulo8}
+use Rattle.slotter.specs.Phases.{phaseSum}
 use Rattle.slotter.specs.Bursts.{firstWindow, lastWindow}
 use Rattle.slotter.proofs.Adjustment.{sum-parity}
 

@@ -1,27 +1,16 @@
--- Symbol phases and the phase adjustment symbol (01, "Burst bits"; EN 300 392-2, clause 9.4.4.3), in eighths of a turn.
-use Prim.Native.Nat.{ℕ, zero, suc, _-_, _%_}
+-- The sum of a window's phases and the phase adjustment symbol (01, "Burst bits"; EN 300 392-2, clause 9.4.4.3), in eighths of a turn.
+use Prim.Native.Nat.{ℕ}
 use mathlib.Core.Bool.{Bool, cond}
 use mathlib.Core.List.{List, [], _∷_}
-use lib.IntN.{ℤ, pos, negsuc, _+ℤ_}
+use lib.IntN.{ℤ, pos, _+ℤ_}
 use lib.Dec.{eqb}
-
--- the phase of the symbol of two bits: 00 +1, 01 +3, 10 −1, 11 −3. `negsuc n` is −1 − n
-unfoldable pub phaseOf : ℕ → ℕ → ℤ
-phaseOf zero zero = pos 1
-phaseOf zero (suc b) = pos 3
-phaseOf (suc a) zero = negsuc 0
-phaseOf (suc a) (suc b) = negsuc 2
+use Rattle.dsp_types.specs.Phases.{phaseOf, modulo8}
 
 -- the sum of the phases of a window's symbols; a last bit alone is no symbol
 unfoldable pub phaseSum : List ℕ → ℤ
 phaseSum [] = pos 0
 phaseSum (a ∷ []) = pos 0
 phaseSum (a ∷ b ∷ bits) = phaseOf a b +ℤ phaseSum bits
-
--- a number of eighths modulo 8
-unfoldable pub modulo8 : ℤ → ℕ
-modulo8 (pos n) = n % 8
-modulo8 (negsuc n) = 7 - n % 8
 
 -- whether a symbol's phase plus a window's sum is 0 modulo 8
 unfoldable pub closes : ℤ → ℕ → ℕ → Bool

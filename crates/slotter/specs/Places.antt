@@ -7,7 +7,8 @@ use lib.IntN.{_+ℤ_}
 use lib.ListN.{length, take, drop}
 use lib.Seq.{slice}
 use Rattle.train_consts.specs.Training.{normal3, synchronization, frequencyCorrection}
-use Rattle.slotter.specs.Phases.{phaseOf, phaseSum, modulo8}
+use Rattle.dsp_types.specs.Phases.{phaseOf, modulo8}
+use Rattle.slotter.specs.Phases.{phaseSum}
 use Rattle.slotter.specs.Bursts.{trainingOf}
 
 -- the symbols `from` to `to` of a burst, counted from 1

@@ -17,7 +17,8 @@ ghost use lib.ListN.{length, take, drop};
 ghost use lib.Seq.{paste};
 ghost use Rattle.dsp_types.specs.Refusals.{wrongLength};
 ghost use Rattle.train_consts.specs.Training.{normal3};
-ghost use Rattle.slotter.specs.Phases.{phaseOf, phaseSum, modulo8, adjustment};
+ghost use Rattle.dsp_types.specs.Phases.{phaseOf, modulo8};
+ghost use Rattle.slotter.specs.Phases.{phaseSum, adjustment};
 ghost use Rattle.slotter.specs.Bursts.{trainingOf, blockRefusal, trainingRefusal, told, refusal, answered, syncBurst, normalBurst};
 
 // How a builder answers. The bits stand beside it, since an enum holds no array.
@@ -197,8 +198,8 @@ fn joined(last: usize, a: &[u8], b: &[u8], c: &[u8], d: &[u8], e: &[u8]) -> Burs
 pub fn build_sdb(blk1: &[u8], bbk: &[u8], blk2: &[u8]) -> Burst
     ensures { λ r. ⌜ told r ≡ syncBurst (now (blk1 .entry)) (now (bbk .entry)) (now (blk2 .entry)) ⌝ }
 {
-    let number = block_refusal(120, blk1, bbk, blk2, 0);
-    if number != 0 {
+    let number = block_refusal(120, blk1, bbk, blk2, ACCEPTED);
+    if number != ACCEPTED {
         return refused(number);
     }
     let f = FREQ_CORRECTION;
@@ -211,7 +212,7 @@ pub fn build_ndb(train: u32, blk1: &[u8], bbk: &[u8], blk2: &[u8]) -> Burst
     ensures { λ r. ⌜ told r ≡ normalBurst train (now (blk1 .entry)) (now (bbk .entry)) (now (blk2 .entry)) ⌝ }
 {
     let number = block_refusal(216, blk1, bbk, blk2, training_refusal(train));
-    if number != 0 {
+    if number != ACCEPTED {
         return refused(number);
     }
     let sequence = training(train);

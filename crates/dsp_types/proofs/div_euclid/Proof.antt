@@ -1,15 +1,13 @@
 -- `dsp_types::div_euclid` meets its contract: by the sign, from what `unsigned` says; the quotient of a number of 63 bits has 63.
-use mathlib.Core.Path.{_≡_, _∙_, sym}
+use mathlib.Core.Path.{_≡_}
 use mathlib.Core.Logic.{⊎-elim}
 use mathlib.Core.Bool.{true, false}
-use Prim.Native.Nat.{ℕ, _/_, _<_, _^_}
+use Prim.Native.Nat.{_/_, _<_, _^_}
 use native.Mathlib.Nat.{div-le-self, lt-of-le-of-lt}
-use native.Mathlib.Omega.{arith}
-use lib.IntN.{pos, negsuc}
+use lib.IntN.{pos}
 use lib.Signed.{ltZ, mag}
 use borrow.Author.Needs.{needs}
 use mir.Syntax.{w64}
-use mir.Val.{SFits}
 use mir.ValLaws.{toZ-ofZ, toZ-pos}
 use Rattle.dsp_types.specs.Times.{divEuclid, divisor}
 use Rattle.dsp_types.proofs.Signs.{below-is, above-is, divisor-none, divisor-some, divisor-above, minus}

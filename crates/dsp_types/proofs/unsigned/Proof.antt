@@ -3,11 +3,9 @@ use mathlib.Core.Path.{_≡_}
 use mathlib.Core.Bool.{true, false}
 use lib.IntN.{pos}
 use lib.Signed.{ltZ, mag}
-use lib.Dec.{T}
-use Prim.Native.Nat.{ℕ, _<_, _^_}
+use Prim.Native.Nat.{_<_, _^_}
 use native.Mathlib.Omega.{arith}
 use mir.Syntax.{w64}
-use mir.Val.{SFits, Fits}
 use mir.ValLaws.{toZ-ofZ, toZ-pos}
 use Rattle.dsp_types.proofs.Signs.{below, above-is}
 use Rattle.dsp_types.proofs.unsigned.Statement.{statement}

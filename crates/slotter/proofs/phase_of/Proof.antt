@@ -1,5 +1,5 @@
 -- `slotter::phase_of` meets its contract: by whether each bit is 0.
-use Rattle.slotter.specs.Phases.{phaseOf}
+use Rattle.dsp_types.specs.Phases.{phaseOf}
 use Rattle.slotter.proofs.Phase.{phase-01, phase-10, phase-11}
 use Rattle.slotter.proofs.phase_of.Statement.{statement}
 use Rattle.slotter.proofs.phase_of.Tie as tie

@@ -9,7 +9,8 @@ use lib.ListN.{length, drop, getD}
 use mir.Syntax.{w32}
 use mir.Val.{toZ, ofZ, SFits}
 use mir.ValLaws.{toZ-ofZ}
-use Rattle.slotter.specs.Phases.{phaseOf, phaseSum}
+use Rattle.dsp_types.specs.Phases.{phaseOf}
+use Rattle.slotter.specs.Phases.{phaseSum}
 use Rattle.slotter.proofs.Phase.{one-more, no-more, Small, small-more, small-fits}
 use Rattle.slotter.proofs.sum_up_phase.Statement.{statement}
 use Rattle.slotter.proofs.sum_up_phase.Tie as tie

@@ -14,20 +14,20 @@ use Rattle.modulator.proofs.block.fill.Statement.{statement}
 use Rattle.modulator.proofs.block.fill.Tie as tie
 
 abbrev Inv-loop : tie.InvT-loop
-Inv-loop re₀ im₀ count phase counter slot has-bits bits next₀ n₀ re im next n =
-    let due = placeDue counter slot has-bits bits in
+Inv-loop re₀ im₀ count phase counter start has-bits bits next₀ n₀ re im next n =
+    let due = placeDue counter start has-bits bits in
     (n ≤ count) × (length re ≡ length re₀) × (length im ≡ length im₀)
     × (take n re ++ reOf (inputsOf due (count - n) n next) ≡ reOf (inputsOf due count 0 phase))
     × (take n im ++ imOf (inputsOf due (count - n) n next) ≡ imOf (inputsOf due count 0 phase))
     × (phasesOf due (count - n) n next ≡ phasesOf due count 0 phase)
 
 abbrev μ-loop : tie.MeasureT-loop
-μ-loop re₀ im₀ count phase counter slot has-bits bits next₀ n₀ re im next n = count - n
+μ-loop re₀ im₀ count phase counter start has-bits bits next₀ n₀ re im next n = count - n
 
 loop-holds : tie.Need-loop-holds Inv-loop μ-loop
 loop-holds c =
     let a = c .before .before .before .args in
-    let due = placeDue (a .counter) (a .slot) (a .has-bits) (a .bits .now) in (
+    let due = placeDue (a .counter) (a .start) (a .has-bits) (a .bits .now) in (
       search needs,
       search needs,
       search needs,
@@ -71,7 +71,7 @@ unfolding placeDue
 loop-again c =
     let l = c .before .before .before .before .loop in
     let a = c .before .before .before .before .before .before .before .before .args in
-    let due = placeDue (a .counter) (a .slot) (a .has-bits) (a .bits .now) in
+    let due = placeDue (a .counter) (a .start) (a .has-bits) (a .bits .now) in
     let k = c .before .phase-after .result in
     let x = c .input .result in
     let d = c .before .before .due-at .ensures in
@@ -95,7 +95,7 @@ returns : tie.Need-returns Inv-loop μ-loop
 returns c =
     let l = c .before .loop in
     let a = c .before .before .before .before .before .args in
-    let due = placeDue (a .counter) (a .slot) (a .has-bits) (a .bits .now) in
+    let due = placeDue (a .counter) (a .start) (a .has-bits) (a .bits .now) in
     let e : l .n ≡ a .count = omega arith in (
       phase-end due (a .count) (l .n) (l .next) 0 _ e (l .inv .5),
       (

@@ -5,9 +5,6 @@ use borrow.Author.Needs.{needs}
 use Rattle.modulator.proofs.block.left.Statement.{statement}
 use Rattle.modulator.proofs.block.left.Tie as tie
 
-mul-end : tie.Need-mul-end
-mul-end c = search needs
-
 add-end : tie.Need-add-end
 add-end c = search needs
 
@@ -40,7 +37,6 @@ pub left-spec : {M : Type 1} → statement M
 left-spec =
     tie.close
     (tie.spec
-    mul-end
     add-end
     sub-counted
     add-if1

@@ -1,6 +1,6 @@
 -- `due::due_now` meets its contract.
 use mathlib.Core.Path.{_≡_, ap, sym, _∙_}
-use lib.IntN.{ℤ, pos}
+use lib.IntN.{pos}
 use lib.Signed.{mag}
 use mir.Syntax.{w64}
 use mir.Val.{SFits}
@@ -32,24 +32,26 @@ returns c =
 unsigned-requires : tie.Need-unsigned-requires
 unsigned-requires c κs = search needs
 
+start-of-requires : tie.Need-start-of-requires
+start-of-requires c κs = search needs
+
 due-at-requires : tie.Need-due-at-requires
 due-at-requires c κs =
-    let p = c .before .before .before in
+    let p = c .before .before .before .before in
     let a = p .before .before .before .args in
-    let z = sym (refusal p) ∙ c .before .before .if1 .left in
-    rw (sized c) (accepted-count (a .counter .0) (a .slot .0) (a .has-bits) (a .bits .now) z .1, accepted-bits (a .counter .0) (a .slot .0) (a .has-bits) (a .bits .now) z)
+    let z = sym (refusal p) ∙ c .before .before .before .if1 .left in
+    rw (sized (c .before)) (accepted-count (a .counter .0) (a .slot .0) (a .has-bits) (a .bits .now) z .1, accepted-bits (a .counter .0) (a .slot .0) (a .has-bits) (a .bits .now) z)
 
 returns-2 : tie.Need-returns-2
 unfolding dueOf dueIf
 returns-2 c =
-    let p = c .before .before .before .before in
+    let p = c .before .before .before .before .before in
     let a = p .before .before .before .args in
-    let z = sym (refusal p) ∙ c .before .before .before .if1 .left in
-    rw z
-    (c .due-at .ensures
-    ∙ ap (λ (n : ℤ). dueAt (a .has-bits) (a .bits .now) (placeIn n (a .slot .0)))
-    (ap pos (sized (c .before)) ∙ sym (accepted-count (a .counter .0) (a .slot .0) (a .has-bits) (a .bits .now) z .0)))
+    let z = sym (refusal p) ∙ c .before .before .before .before .if1 .left in
+    let n = ap pos (sized (c .before .before)) ∙ sym (accepted-count (a .counter .0) (a .slot .0) (a .has-bits) (a .bits .now) z .0) in
+    let s = c .before .start-of .ensures .0 in
+    rw z (c .due-at .ensures ∙ (λ i. dueAt (a .has-bits) (a .bits .now) (placeIn (n i) (s i))))
 
 pub due-now-spec : {M : Type 1} → statement M
 due-now-spec =
-    tie.close (tie.spec input-refusal-requires returns unsigned-requires due-at-requires returns-2)
+    tie.close (tie.spec input-refusal-requires returns unsigned-requires start-of-requires due-at-requires returns-2)

@@ -3,6 +3,8 @@ use mir.Syntax.{w64}
 use mir.ValLaws.{toZ-ofZ}
 use Rattle.dsp_types.specs.Refusals.{outOfCount}
 -- `due::input_refusal` meets its contract: the tests in the order of the numbers.
+use native.Mathlib.Omega.{arith}
+use Rattle.dsp_types.specs.Times.{slots}
 use borrow.Author.Tests.{lt-ltb, le-ltb}
 use Rattle.modulator.specs.Sender.{inputRefusal, slotRefusal}
 use Rattle.modulator.proofs.Places.{refused-bits}
@@ -32,12 +34,12 @@ returns-2 c =
 returns-3 : tie.Need-returns-3
 unfolding inputRefusal slotRefusal
 returns-3 c =
-    let r = c .before .before .before in rw (sym (counts (r .before)) ∙ r .if1 .left, sym (c .before .before .bits-refusal .ensures) ∙ c .before .if2 .left, lt-ltb _ _ (c .if3 .taken))
+    let r = c .before .before .before in rw (sym (counts (r .before)) ∙ r .if1 .left, sym (c .before .before .bits-refusal .ensures) ∙ c .before .if2 .left, le-ltb _ _ (c .if3 .taken))
 
 returns-4 : tie.Need-returns-4
 unfolding inputRefusal slotRefusal
 returns-4 c =
-    let r = c .before .before .before in rw (sym (counts (r .before)) ∙ r .if1 .left, sym (c .before .before .bits-refusal .ensures) ∙ c .before .if2 .left, le-ltb _ _ (c .if3 .left))
+    let r = c .before .before .before in rw (sym (counts (r .before)) ∙ r .if1 .left, sym (c .before .before .bits-refusal .ensures) ∙ c .before .if2 .left, lt-ltb (r .before .before .before .args .slot) slots (omega arith))
 
 pub input-refusal-spec : {M : Type 1} → statement M
 input-refusal-spec =

@@ -1,22 +1,23 @@
 -- `mapper::turn` meets its contract: a case for each symbol.
-use Rattle.modulator.specs.Dqpsk.{turnOf}
+use Rattle.dsp_types.specs.Phases.{phaseOf, modulo8}
+use Rattle.modulator.specs.Dqpsk.{bitOf, turnOf}
 use Rattle.modulator.proofs.mapper.turn.Statement.{statement}
 use Rattle.modulator.proofs.mapper.turn.Tie as tie
 
 returns : tie.Need-returns
-unfolding turnOf
+unfolding bitOf phaseOf modulo8 turnOf
 returns c = rw (c .before .if1 .taken, c .if2 .taken)
 
 returns-2 : tie.Need-returns-2
-unfolding turnOf
+unfolding bitOf phaseOf modulo8 turnOf
 returns-2 c = rw (c .before .if1 .taken, c .if2 .left)
 
 returns-3 : tie.Need-returns-3
-unfolding turnOf
+unfolding bitOf phaseOf modulo8 turnOf
 returns-3 c = rw (c .before .if1 .left, c .if3 .taken)
 
 returns-4 : tie.Need-returns-4
-unfolding turnOf
+unfolding bitOf phaseOf modulo8 turnOf
 returns-4 c = rw (c .before .if1 .left, c .if3 .left)
 
 pub turn-spec : {M : Type 1} → statement M

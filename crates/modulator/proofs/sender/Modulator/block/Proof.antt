@@ -1,6 +1,6 @@
 -- `Modulator::block` meets its contract: the samples before the first refusal are counted, sent together, and the refusal is told.
 use mathlib.Core.Path.{_≡_, refl, ap, sym, _∙_}
-use Prim.Native.Nat.{ℕ, _/_, _<_, _^_}
+use Prim.Native.Nat.{ℕ, _+_, _/_, _<_, _≤_}
 use native.Mathlib.Omega.{arith}
 use lib.IntN.{ℤ, pos}
 use lib.ListN.{length}
@@ -8,7 +8,8 @@ use lib.Signed.{mag}
 use mir.Syntax.{w64}
 use mir.Val.{SFits}
 use mir.ValLaws.{toZ-ofZ}
-use Rattle.modulator.specs.Sender.{Bits, inputRefusal, dueOf, refusalOf, senderOf}
+use Rattle.dsp_types.specs.Refusals.{lastCounter, counters}
+use Rattle.modulator.specs.Sender.{Bits, startOf, inputRefusal, dueOf, refusalOf, senderOf}
 use Rattle.modulator.specs.Blocks.{dueAfter, blockCall, placeDue, fedBlock, leftOf}
 use Rattle.modulator.proofs.Places.{accepted-count, accepted-bits}
 use Rattle.modulator.proofs.Blocks.{none-sent, no-refusal, some-room, input-accepted, room-called, some-left, fed-count, filled, ended, count-within}
@@ -39,7 +40,7 @@ module _ (c : tie.After-unsigned) where
   first-is : c .before .before .before .before .before .before .args .sample-counter .0 ≡ pos (c .unsigned .result)
   first-is = let a = c .before .before .before .before .before .before .args in accepted-count (a .sample-counter .0) (a .slot .0) (a .has-bits) (a .bits .now) none .0 ∙ ap pos (sym sized)
 
-  small : c .unsigned .result < 2 ^ 37
+  small : c .unsigned .result ≤ lastCounter
   small = let a = c .before .before .before .before .before .before .args in rw sized (accepted-count (a .sample-counter .0) (a .slot .0) (a .has-bits) (a .bits .now) none .1)
 
   bits-are : Bits (c .before .before .before .before .before .before .args .has-bits) (c .before .before .before .before .before .before .args .bits .now)
@@ -48,7 +49,7 @@ module _ (c : tie.After-unsigned) where
   accepted : let a = c .before .before .before .before .before .before .args in inputRefusal (pos (c .unsigned .result)) (a .slot .0) (a .has-bits) (a .bits .now) ≡ 0
   accepted = let a = c .before .before .before .before .before .before .args in ap (λ (z : ℤ). inputRefusal z (a .slot .0) (a .has-bits) (a .bits .now)) (sym first-is) ∙ none
 
-  left : 0 < leftOf (c .unsigned .result) (c .before .before .before .before .before .before .args .slot .0)
+  left : 0 < leftOf (c .unsigned .result) (startOf (c .before .before .before .before .before .before .args .slot .0))
   left =
       let a = c .before .before .before .before .before .before .args in
       some-left (c .unsigned .result) (a .slot .0) (a .has-bits) (a .bits .now) accepted small (ap (λ (z : ℤ). refusalOf (dueOf z (a .slot .0) (a .has-bits) (a .bits .now))) (sym first-is) ∙ unrefused)
@@ -64,63 +65,72 @@ returns c =
 unsigned-requires : tie.Need-unsigned-requires
 unsigned-requires c κs = search needs
 
+start-of-requires : tie.Need-start-of-requires
+start-of-requires c κs = search needs
+
 left-requires : tie.Need-left-requires
-left-requires c κs = small c
+left-requires c κs = (small (c .before), c .start-of .ensures .1)
+
+-- what is left, by the slot's start
+module _ (c : tie.After-left) where
+  left-is : c .left .result ≡ leftOf (c .before .before .unsigned .result) (startOf (c .before .before .before .before .before .before .before .before .args .slot .0))
+  left-is = c .left .ensures ∙ ap (leftOf (c .before .before .unsigned .result)) (c .before .start-of .ensures .0)
+
+  within : c .before .before .unsigned .result + c .left .result ≤ counters
+  within = omega (arith, count-within (c .before .before .unsigned .result) (c .before .start-of .result) (small (c .before .before)), c .left .ensures)
 
 send-requires : tie.Need-send-requires
 send-requires c κs =
     let l = c .before .before in
-    (omega arith, omega (arith, count-within (l .before .unsigned .result) (l .before .before .before .before .before .before .before .args .slot .0) (small (l .before)), l .left .ensures, c .before .if2 .taken), bits-are (l .before))
+    (omega arith, omega (arith, within l, c .before .if2 .taken), bits-are (l .before .before))
 
 same-length : tie.Need-same-length
 same-length c = search needs
 
 returns-2 : tie.Need-returns-2
 returns-2 c =
-    let a = c .before .before .before .before .before .before .before .before .before .before .before .before .args in
+    let a = c .before .before .before .before .before .before .before .before .before .before .before .before .before .args in
     let l = c .before .before .before .before .before in
-    let u = l .before in
+    let u = l .before .before in
     let m = u .unsigned .result in
     let s = senderOf (a .self) (a .mapper) in
     let n = length (a .out .now) / 2 in
-    let due = placeDue m (a .slot .0) (a .has-bits) (a .bits .now) in
-    let w = c .before .before .send .ensures in
+    let due = placeDue m (startOf (a .slot .0)) (a .has-bits) (a .bits .now) in
+    let w = rw (l .before .start-of .ensures .0) at (c .before .before .send .ensures) in
     let e : blockCall (dueAfter (a .sample-counter .0) (a .slot .0) (a .has-bits) (a .bits .now)) n s ≡ fedBlock due n 0 s =
     ap (λ (z : ℤ). blockCall (dueAfter z (a .slot .0) (a .has-bits) (a .bits .now)) n s) (first-is u)
     ∙ room-called _ n s (room u)
-    ∙ filled m (a .slot .0) (a .has-bits) (a .bits .now) (accepted u) n s (omega (arith, l .left .ensures, c .before .before .before .before .if2 .taken)) in
+    ∙ filled m (a .slot .0) (a .has-bits) (a .bits .now) (accepted u) n s (omega (arith, left-is l, c .before .before .before .before .if2 .taken)) in
     (rw e w, λ z. absurd (omega (arith, z, room u, fed-count due n 0 _ _ s _ _ _ w)))
 
 end-refusal-requires : tie.Need-end-refusal-requires
-end-refusal-requires c κs =
-    let l = c .before in
-    omega (arith, count-within (l .before .unsigned .result) (l .before .before .before .before .before .before .before .args .slot .0) (small (l .before)), l .left .ensures)
+end-refusal-requires c κs = within (c .before)
 
 send-requires-2 : tie.Need-send-requires-2
 send-requires-2 c κs =
     let l = c .before .before .before in
-    (omega (arith, c .before .before .if2 .left), omega (arith, count-within (l .before .unsigned .result) (l .before .before .before .before .before .before .before .args .slot .0) (small (l .before)), l .left .ensures), bits-are (l .before))
+    (omega (arith, c .before .before .if2 .left), within l, bits-are (l .before .before))
 
 same-length-2 : tie.Need-same-length-2
 same-length-2 c = search needs
 
 returns-3 : tie.Need-returns-3
 returns-3 c =
-    let a = c .before .before .before .before .before .before .before .before .before .before .before .before .before .args in
+    let a = c .before .before .before .before .before .before .before .before .before .before .before .before .before .before .args in
     let l = c .before .before .before .before .before .before in
-    let u = l .before in
+    let u = l .before .before in
     let m = u .unsigned .result in
     let s = senderOf (a .self) (a .mapper) in
     let n = length (a .out .now) / 2 in
     let r = c .before .before .before .before .end-refusal in
-    let due = placeDue m (a .slot .0) (a .has-bits) (a .bits .now) in
-    let w = c .before .before .send2 .ensures in
+    let due = placeDue m (startOf (a .slot .0)) (a .has-bits) (a .bits .now) in
+    let w = rw (l .before .start-of .ensures .0) at (c .before .before .send2 .ensures) in
     let e : blockCall (dueAfter (a .sample-counter .0) (a .slot .0) (a .has-bits) (a .bits .now)) n s ≡ fedBlock due (l .left .result) (r .result) s =
     ap (λ (z : ℤ). blockCall (dueAfter z (a .slot .0) (a .has-bits) (a .bits .now)) n s) (first-is u)
     ∙ room-called _ n s (room u)
-    ∙ ended m (a .slot .0) (a .has-bits) (a .bits .now) (accepted u) n (r .result) s (omega (arith, l .left .ensures, c .before .before .before .before .before .if2 .left)) (count-within m (a .slot .0) (small u)) (rw (l .left .ensures) at (r .ensures))
-    ∙ ap (λ (k : ℕ). fedBlock due k (r .result) s) (sym (l .left .ensures)) in
-    (rw e w, λ z. absurd (omega (arith, z, l .left .ensures, left u, fed-count due (l .left .result) (r .result) _ _ s _ _ _ w)))
+    ∙ ended m (a .slot .0) (a .has-bits) (a .bits .now) (accepted u) n (r .result) s (omega (arith, left-is l, c .before .before .before .before .before .if2 .left)) (count-within m (startOf (a .slot .0)) (small u)) (rw (left-is l) at (r .ensures))
+    ∙ ap (λ (k : ℕ). fedBlock due k (r .result) s) (sym (left-is l)) in
+    (rw e w, λ z. absurd (omega (arith, z, left-is l, left u, fed-count due (l .left .result) (r .result) _ _ s _ _ _ w)))
 
 pub block-spec : {M : Type 1} → statement M
 block-spec =
@@ -129,6 +139,7 @@ block-spec =
     refusal-now-requires
     returns
     unsigned-requires
+    start-of-requires
     left-requires
     send-requires
     same-length

@@ -73,7 +73,7 @@ returns c =
     let s = c .before .before .before .before .before .before .before .before .before .before .before .before .before .before .before .before .before .before .before .before .before in
     let a = s .args in
     let f = c .before .before .before .before .before .before .before .before .before .before .before .before .before .before .before .before .fill .ensures in
-    piece-wrote (placeDue (a .counter) (a .slot) (a .has-bits) (a .bits .now)) (a .count) (senderOf (a .self) (a .mapper)) _ _ _ _ _ _ (a .out .now) _ _ _
+    piece-wrote (placeDue (a .counter) (a .start) (a .has-bits) (a .bits .now)) (a .count) (senderOf (a .self) (a .mapper)) _ _ _ _ _ _ (a .out .now) _ _ _
     (s .pre .0) (s .pre .0) (s .pre .0) (f .1 .0) (f .1 .1) (f .0) (c .before .before .before .before .before .before .before .before .block .ensures) (c .before .before .interleave .ensures)
 
 pub piece-spec : {M : Type 1} → statement M

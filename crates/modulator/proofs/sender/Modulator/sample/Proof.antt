@@ -1,4 +1,4 @@
--- `Modulator::sample` meets its contract: a walk of its MIR, by hand. `due_now` is called on the slot, the phase record is given to `symbol`, and `feed` answers.
+-- `Modulator::sample` meets its contract: a walk of its MIR, by hand. `due_now` is called on the slot, the phase record is given to `symbol`, and `transmit` answers.
 -- Assumes nothing.
 use mathlib.Core.Path.{_≡_, refl}
 use mathlib.Core.Bool.{Bool}
@@ -67,10 +67,10 @@ use Rattle.modulator.proofs.mapper.DqpskMapper.symbol as symbol
 use Rattle.modulator.proofs.mapper.DqpskMapper.symbol.Symbol as symbol-def
 use Rattle.modulator.proofs.mapper.DqpskMapper.symbol.Symbol.{name as #symbol}
 use Rattle.modulator.proofs.mapper.DqpskMapper.symbol.Met as symbol-thm
-use Rattle.modulator.proofs.sender.Modulator.feed as feed
-use Rattle.modulator.proofs.sender.Modulator.feed.Symbol as feed-def
-use Rattle.modulator.proofs.sender.Modulator.feed.Symbol.{name as #feed}
-use Rattle.modulator.proofs.sender.Modulator.feed.Met as feed-thm
+use Rattle.modulator.proofs.sender.Modulator.transmit as transmit
+use Rattle.modulator.proofs.sender.Modulator.transmit.Symbol as transmit-def
+use Rattle.modulator.proofs.sender.Modulator.transmit.Symbol.{name as #transmit}
+use Rattle.modulator.proofs.sender.Modulator.transmit.Met as transmit-thm
 use Rattle.modulator.proofs.sender.Modulator.sample.Key.{name as #sample}
 use Rattle.modulator.proofs.sender.Modulator.sample as sample
 use Rattle.modulator.proofs.sender.Modulator.sample.Statement as stated
@@ -100,8 +100,8 @@ module _ {M : Type 1} (𝓤 : URA M) (H : Heap 𝓤) (A : Atoms 𝓤) (at-mem : 
   abbrev Symbol : Contract 𝓤
   Symbol = tripleOf 𝓤 H A symbol.signature (symbol.spec 𝓤 H A at-mem run)
 
-  abbrev Feed : Contract 𝓤
-  Feed = tripleOf 𝓤 H A feed.signature (feed.spec 𝓤 H A at-mem run)
+  abbrev Transmit : Contract 𝓤
+  Transmit = tripleOf 𝓤 H A transmit.signature (transmit.spec 𝓤 H A at-mem run)
 
 module _ {M : Type 1} (𝓤 : URA M) (H : Heap 𝓤) (A : Atoms 𝓤) (W : Given 𝓤 H A) (at-mem : Memory → SProp 𝓤) (run : Routine → Fun 𝓤) (κ κ′ : Lft) (q q′ : Share)
     (m : Modulator) (b o : ℕ) (γ : GName) (h : DqpskMapper) (c : SampleCount) (t : TdmaTime) (k : Bool) (s : RefT (List ℕ)) where
@@ -141,15 +141,15 @@ module _ {M : Type 1} (𝓤 : URA M) (H : Heap 𝓤) (A : Atoms 𝓤) (W : Given
   abbrev to-symbol : Due → Val → Symbol 𝓤 H A at-mem run .Ghost
   to-symbol d w = (((κ, tt), (q, tt), tt, (x, (d, tt)), (vptr b o ∷ [], (w ∷ [], tt))), tt)
 
-  abbrev to-feed : Due → Val → ComplexSample → Val → Feed 𝓤 H A at-mem run .Ghost
-  to-feed d w y v = ((tt, tt, tt, (m, (d, (y, tt))), (m-val ∷ [], (w ∷ [], (v ∷ [], tt)))), tt)
+  abbrev to-transmit : Due → Val → ComplexSample → Val → Transmit 𝓤 H A at-mem run .Ghost
+  to-transmit d w y v = ((tt, tt, tt, (m, (d, (y, tt))), (m-val ∷ [], (w ∷ [], (v ∷ [], tt)))), tt)
 
   -- of each callee's `ensured` the clause
   due-said : (d : Due) → ent 𝓤 (ensured 𝓤 H A due-now.ended (due-now.clauses 𝓤 H A at-mem run) (κ′, tt) (c, (t, (k, (s, tt)))) tt d) (fact 𝓤 (d ≡ d₀))
   due-said d = exE 𝓤 _ (λ ws. snd∗ 𝓤 (sem 𝓤 H A (lasts due-now.ended (κ′, tt) (c, (t, (k, (s, tt)))) ws)) (fact 𝓤 (d ≡ d₀)))
 
-  feed-said : (d : Due) (y : ComplexSample) (r : Sampled) → ent 𝓤 (ensured 𝓤 H A feed.ended (feed.clauses 𝓤 H A at-mem run) tt (m, (d, (y, tt))) tt r) (fact 𝓤 (Fed m d y r))
-  feed-said d y r = exE 𝓤 _ (λ ws. snd∗ 𝓤 (sem 𝓤 H A (lasts feed.ended tt (m, (d, (y, tt))) ws)) (fact 𝓤 (Fed m d y r)))
+  transmit-said : (d : Due) (y : ComplexSample) (r : Sampled) → ent 𝓤 (ensured 𝓤 H A transmit.ended (transmit.clauses 𝓤 H A at-mem run) tt (m, (d, (y, tt))) tt r) (fact 𝓤 (Fed m d y r))
+  transmit-said d y r = exE 𝓤 _ (λ ws. snd∗ 𝓤 (sem 𝓤 H A (lasts transmit.ended tt (m, (d, (y, tt))) ws)) (fact 𝓤 (Fed m d y r)))
 
   exits : (n : DqpskMapper) (r : Sampled) (w : Val) → Sent m h d₀ n r
       → ent 𝓤 (⋆ 𝓤 H A (‵ (R.the-row .own r (w ∷ [])) ∷ (‵ (flft κ q) ⊛ ‵ ftrue) ∷ ‵ (fres γ (T.the-row .coded .code n)) ∷ (‵ (flft κ′ q′) ⊛ ‵ ftrue) ∷ [])) (Post w)
@@ -174,13 +174,13 @@ module _ {M : Type 1} (𝓤 : URA M) (H : Heap 𝓤) (A : Atoms 𝓤) (W : Given
         qed W (‵ (MutRef (named 0) κ T.the-row .own x (vptr b o ∷ [])) ∷ ‵ (flft κ q) ∷ []) ∵ nothing ! $
         owned ! D.the-row (Is D.the-row) (EL.makes D.the-type D′.the-plain 𝓤 H A) d _ d-is $ fjoin ! $ move ! (1 ∷ 0 ∷ []) $ fjoin ! $ nothing ! $ move ! (2 ∷ 0 ∷ []) $ join ! $ join ! $ frame ! $ done !
 
-    goes-feed : (d : Due) (w : Val) (y : ComplexSample) (v : Val) → Is D.the-row d (w ∷ []) → Is S.the-row y (v ∷ []) → ent 𝓤 (emp 𝓤) (Feed 𝓤 H A at-mem run .pre (to-feed d w y v))
-    goes-feed d w y v d-is y-is =
+    goes-transmit : (d : Due) (w : Val) (y : ComplexSample) (v : Val) → Is D.the-row d (w ∷ []) → Is S.the-row y (v ∷ []) → ent 𝓤 (emp 𝓤) (Transmit 𝓤 H A at-mem run .pre (to-transmit d w y v))
+    goes-transmit d w y v d-is y-is =
         qed W [] ∵ nothing ! $ owned ! S.the-row (Is S.the-row) (LL.makes S.the-type S′.the-plain 𝓤 H A) y _ y-is $ fjoin ! $
         owned ! D.the-row (Is D.the-row) (EL.makes D.the-type D′.the-plain 𝓤 H A) d _ d-is $ fjoin ! $ owned ! O.the-row (Is O.the-row) (LL.makes O.the-type O′.the-plain 𝓤 H A) m _ m-is $ fjoin ! $
         nothing ! $ join ! $ frame ! $ done !
 
-    module _ (C : Calls 𝓤 H) (Λ : Loops 𝓤 H) (fm : FmC 𝓤 H (W .laws) C) (dues : Triple 𝓤 (C #due-now) (DueNow 𝓤 H A at-mem run)) (steps : Triple 𝓤 (C #symbol) (Symbol 𝓤 H A at-mem run)) (feeds : Triple 𝓤 (C #feed) (Feed 𝓤 H A at-mem run)) where
+    module _ (C : Calls 𝓤 H) (Λ : Loops 𝓤 H) (fm : FmC 𝓤 H (W .laws) C) (dues : Triple 𝓤 (C #due-now) (DueNow 𝓤 H A at-mem run)) (steps : Triple 𝓤 (C #symbol) (Symbol 𝓤 H A at-mem run)) (transmits : Triple 𝓤 (C #transmit) (Transmit 𝓤 H A at-mem run)) where
       walk : ent 𝓤 (onEntry 𝓤 H A sample.signature (κ, (κ′, tt)) (q, (q′, tt)) a vals) (WpFn 𝓤 H C Λ code.function (m-val ∷ vptr b o ∷ c-val ∷ t-val ∷ vbool k ∷ s-val ∷ []) Post)
       walk =
           qed W ((‵ (flft κ q) ⊛ ‵ (flft κ′ q′) ⊛ ‵ ftrue) ∷ ‵ (owns (O.the-row ∷ MutRef (named 0) κ T.the-row ∷ N.the-row ∷ I.the-row ∷ Boolean ∷ ShrSlice (named 1) κ′ u8 ∷ []) a vals) ∷ []) ∵
@@ -209,10 +209,10 @@ module _ {M : Type 1} (𝓤 : URA M) (H : Heap 𝓤) (A : Atoms 𝓤) (W : Given
           peeks ! S.the-row (Is S.the-row) (shows 𝓤 H A S.the-row) y (v ∷ []) (λ y-is.
           land ! (from ! (stop !)) (init ! 7 refl (LL.lawful S.the-type S′.the-laws 𝓤 H A W .typed y _ y-is .0)) $ drop ! $
           -- [the record's token; its last phase; …; the slice's token; _9; …; _8; …; _7; …; _6; …; _5; …; _4; …; _3; …; _2; …; _1; …; room for _0; …]
-          use0 W (raw (Feed 𝓤 H A at-mem run .pre (to-feed d w y v))) (goes-feed d w y v d-is y-is) $
-          calls-at ! fm (Feed 𝓤 H A at-mem run) feeds (to-feed d w y v) (and-then ! (load ! (from ! (stop !)) (look ! 21 refl)) (and-then ! (load ! (from ! (stop !)) (look ! 9 refl)) (and-then ! (load ! (from ! (stop !)) (look ! 7 refl)) (no-more !)))) (λ z.
-          use1 W (later (some (λ (r : Sampled). (‵ ftrue ⊛ ‵ (R.the-row .own r (z ∷ []))) ⊛ raw (ensured 𝓤 H A feed.ended (feed.clauses 𝓤 H A at-mem run) tt (m, (d, (y, tt))) tt r)))) (id⊢ 𝓤 _) $ await ! tt $ pick ! (λ r.
-          split ! $ move ! (1 ∷ []) $ use1 W (raw (fact 𝓤 (Fed m d y r))) (feed-said d y r) $ heard ! (Fed m d y r) (λ g. split ! $ drop ! $
+          use0 W (raw (Transmit 𝓤 H A at-mem run .pre (to-transmit d w y v))) (goes-transmit d w y v d-is y-is) $
+          calls-at ! fm (Transmit 𝓤 H A at-mem run) transmits (to-transmit d w y v) (and-then ! (load ! (from ! (stop !)) (look ! 21 refl)) (and-then ! (load ! (from ! (stop !)) (look ! 9 refl)) (and-then ! (load ! (from ! (stop !)) (look ! 7 refl)) (no-more !)))) (λ z.
+          use1 W (later (some (λ (r : Sampled). (‵ ftrue ⊛ ‵ (R.the-row .own r (z ∷ []))) ⊛ raw (ensured 𝓤 H A transmit.ended (transmit.clauses 𝓤 H A at-mem run) tt (m, (d, (y, tt))) tt r)))) (id⊢ 𝓤 _) $ await ! tt $ pick ! (λ r.
+          split ! $ move ! (1 ∷ []) $ use1 W (raw (fact 𝓤 (Fed m d y r))) (transmit-said d y r) $ heard ! (Fed m d y r) (λ g. split ! $ drop ! $
           peeks ! R.the-row (Is R.the-row) (shows 𝓤 H A R.the-row) r (z ∷ []) (λ r-is.
           land ! (from ! (stop !)) (init ! 23 refl (LL.lawful R.the-type R′.the-laws 𝓤 H A W .typed r _ r-is .0)) $
           -- [the result; the record's token; its last phase; …; the slice's token; _9; …; _8; …; _7; …; _6; …; _5; …; _4; …; _3; …; _2; …; _1; …; _0; …]
@@ -222,15 +222,15 @@ module _ {M : Type 1} (𝓤 : URA M) (H : Heap 𝓤) (A : Atoms 𝓤) (W : Given
           keep ! (0 ∷ 1 ∷ 2 ∷ 4 ∷ []) $ by ! (exits (ws .0) r z (sent m h d d₀ (ws .0) y r e f g)))))))))))))))))))))))))
 
 module _ {M : Type 1} (𝓤 : URA M) (H : Heap 𝓤) (A : Atoms 𝓤) (W : Given 𝓤 H A) (at-mem : Memory → SProp 𝓤) (run : Routine → Fun 𝓤) where
-  sample-walks : (C : Calls 𝓤 H) (Λ : Loops 𝓤 H) → FmC 𝓤 H (W .laws) C → Triple 𝓤 (C #due-now) (DueNow 𝓤 H A at-mem run) → Triple 𝓤 (C #symbol) (Symbol 𝓤 H A at-mem run) → Triple 𝓤 (C #feed) (Feed 𝓤 H A at-mem run)
+  sample-walks : (C : Calls 𝓤 H) (Λ : Loops 𝓤 H) → FmC 𝓤 H (W .laws) C → Triple 𝓤 (C #due-now) (DueNow 𝓤 H A at-mem run) → Triple 𝓤 (C #symbol) (Symbol 𝓤 H A at-mem run) → Triple 𝓤 (C #transmit) (Transmit 𝓤 H A at-mem run)
       → Walks 𝓤 H A sample.ended stayed (WpFn 𝓤 H C Λ code.function) (sample.clauses 𝓤 H A at-mem run)
-  sample-walks C Λ fm dues steps feeds =
+  sample-walks C Λ fm dues steps transmits =
       walked 𝓤 H A sample.ended stayed (sample.clauses 𝓤 H A at-mem run) (WpFn 𝓤 H C Λ code.function)
       (λ κs. (LL.vals O.the-type O′.the-laws, (ptr-vals, (LL.vals N.the-type N′.the-laws, (LL.vals I.the-type I′.the-laws, (bool-vals, (slice-vals, tt)))))))
       (λ κs. (LL.tells O.the-type O′.the-laws, (mut-tells (named 0) (κs .0) T.the-row, (LL.tells N.the-type N′.the-laws, (LL.tells I.the-type I′.the-laws, (bool-tells, (shr-slice-tells (named 1) (κs .1 .0) u8, tt)))))))
       (λ κs qs bounds a g are. via 𝓤 _ (fst∗ 𝓤 _ (emp 𝓤))
       (walk 𝓤 H A W at-mem run (κs .0) (κs .1 .0) (qs .0) (qs .1 .0) (a .0) (a .1 .0 .ptr .0) (a .1 .0 .ptr .1) (a .1 .0 .name) (a .1 .0 .now) (a .1 .1 .0) (a .1 .1 .1 .0) (a .1 .1 .1 .1 .0) (a .1 .1 .1 .1 .1 .0)
-      (are .0) (are .1 .1 .0) (are .1 .1 .1 .0) (are .1 .1 .1 .1 .0) (are .1 .1 .1 .1 .1 .0) C Λ fm dues steps feeds))
+      (are .0) (are .1 .1 .0) (are .1 .1 .1 .0) (are .1 .1 .1 .1 .0) (are .1 .1 .1 .1 .1 .0) C Λ fm dues steps transmits))
 
   goes : AllGo 𝓤 H A W 2 (sample.signature .params) (sample.ended .kept) stayed
   goes = (
@@ -251,11 +251,11 @@ module _ {M : Type 1} (𝓤 : URA M) (H : Heap 𝓤) (A : Atoms 𝓤) (W : Given
   )
 
 sample-meets : {M : Type 1} (𝓤 : URA M) (H : Heap 𝓤) (A : Atoms 𝓤) → Given 𝓤 H A → (at-mem : Memory → SProp 𝓤) (run : Routine → Fun 𝓤) (𝓣 : Tables 𝓤 H)
-    → Triple 𝓤 (𝓣 .C #due-now) (DueNow 𝓤 H A at-mem run) → Triple 𝓤 (𝓣 .C #symbol) (Symbol 𝓤 H A at-mem run) → Triple 𝓤 (𝓣 .C #feed) (Feed 𝓤 H A at-mem run)
+    → Triple 𝓤 (𝓣 .C #due-now) (DueNow 𝓤 H A at-mem run) → Triple 𝓤 (𝓣 .C #symbol) (Symbol 𝓤 H A at-mem run) → Triple 𝓤 (𝓣 .C #transmit) (Transmit 𝓤 H A at-mem run)
     → Meets 𝓤 H A sample.signature (WpFn 𝓤 H (𝓣 .C) (𝓣 .Λ) code.function) (sample.spec 𝓤 H A at-mem run)
-sample-meets 𝓤 H A W at-mem run 𝓣 dues steps feeds =
+sample-meets 𝓤 H A W at-mem run 𝓣 dues steps transmits =
     walk-meets 𝓤 H A sample.ended stayed W (goes 𝓤 H A W at-mem run) (sample.clauses 𝓤 H A at-mem run)
-    (WpFn 𝓤 H (𝓣 .C) (𝓣 .Λ) code.function) (WpFn-mono 𝓤 H (W .laws) 𝓣 code.function) (sample-walks 𝓤 H A W at-mem run (𝓣 .C) (𝓣 .Λ) (fmOf 𝓤 H (W .laws) 𝓣) dues steps feeds)
+    (WpFn 𝓤 H (𝓣 .C) (𝓣 .Λ) code.function) (WpFn-mono 𝓤 H (W .laws) 𝓣 code.function) (sample-walks 𝓤 H A W at-mem run (𝓣 .C) (𝓣 .Λ) (fmOf 𝓤 H (W .laws) 𝓣) dues steps transmits)
 
 pub sample-spec : {M : Type 1} → stated.statement M
 unfolding code.routine tablesOf
@@ -265,4 +265,4 @@ sample-spec 𝓤 H 𝓜 𝓖 𝓡 =
     (sample-meets 𝓤 H (𝓖 .A) (givenOf 𝓤 H 𝓜 𝓖) (𝓜 .mem) (𝓡 .run) (tablesOf 𝓤 H 𝓜 (tables 𝓤 H 𝓜 𝓡 code.env))
     (cited 𝓤 H (DueNow 𝓤 H (𝓖 .A) (𝓜 .mem) (𝓡 .run)) 𝓜 𝓡 code.env #due-now due-now-def.routine code.calls-modulator·due·due-now (due-now-thm.met 𝓤 H 𝓜 𝓖 𝓡))
     (cited 𝓤 H (Symbol 𝓤 H (𝓖 .A) (𝓜 .mem) (𝓡 .run)) 𝓜 𝓡 code.env #symbol symbol-def.routine code.calls-modulator·mapper·DqpskMapper·symbol (symbol-thm.met 𝓤 H 𝓜 𝓖 𝓡))
-    (cited 𝓤 H (Feed 𝓤 H (𝓖 .A) (𝓜 .mem) (𝓡 .run)) 𝓜 𝓡 code.env #feed feed-def.routine code.calls-modulator·sender·Modulator·feed (feed-thm.met 𝓤 H 𝓜 𝓖 𝓡)))
+    (cited 𝓤 H (Transmit 𝓤 H (𝓖 .A) (𝓜 .mem) (𝓡 .run)) 𝓜 𝓡 code.env #transmit transmit-def.routine code.calls-modulator·sender·Modulator·transmit (transmit-thm.met 𝓤 H 𝓜 𝓖 𝓡)))

@@ -11,12 +11,12 @@ use Rattle.modulator.proofs.sender.Modulator.send.Statement.{statement}
 use Rattle.modulator.proofs.sender.Modulator.send.Tie as tie
 
 abbrev Inv-loop : tie.InvT-loop
-Inv-loop count refusal counter slot has-bits bits out₀ modulator₀ phase₀ done₀ out modulator phase done =
+Inv-loop count refusal counter start has-bits bits out₀ modulator₀ phase₀ done₀ out modulator phase done =
     (done ≤ count) × (length out ≡ length out₀)
-    × Wrote (fedBlock (placeDue counter slot has-bits bits) done refusal (senderOf modulator₀ phase₀)) done refusal (senderOf modulator phase) out₀ out
+    × Wrote (fedBlock (placeDue counter start has-bits bits) done refusal (senderOf modulator₀ phase₀)) done refusal (senderOf modulator phase) out₀ out
 
 abbrev μ-loop : tie.MeasureT-loop
-μ-loop count refusal counter slot has-bits bits out₀ modulator₀ phase₀ done₀ out modulator phase done =
+μ-loop count refusal counter start has-bits bits out₀ modulator₀ phase₀ done₀ out modulator phase done =
     count - done
 
 loop-holds : tie.Need-loop-holds Inv-loop μ-loop
@@ -64,8 +64,8 @@ loop-again c =
     let p = c .before .before .before .before .piece in (
       search needs,
       search needs,
-      wrote-more (placeDue (a .counter) (a .slot) (a .has-bits) (a .bits .now)) (placeDue (a .counter + l .done) (a .slot) (a .has-bits) (a .bits .now)) (l .done) n
-          (due-later (a .counter) (a .slot) (a .has-bits) (a .bits .now) (l .done)) (senderOf (a .self) (a .mapper)) (a .refusal) (senderOf (l .modulator) (l .phase)) (senderOf (p .result .modulator) (p .result .mapper))
+      wrote-more (placeDue (a .counter) (a .start) (a .has-bits) (a .bits .now)) (placeDue (a .counter + l .done) (a .start) (a .has-bits) (a .bits .now)) (l .done) n
+          (due-later (a .counter) (a .start) (a .has-bits) (a .bits .now) (l .done)) (senderOf (a .self) (a .mapper)) (a .refusal) (senderOf (l .modulator) (l .phase)) (senderOf (p .result .modulator) (p .result .mapper))
           (a .out .now) (l .out) (p .last .1 .1 .1 .1 .1 .1 .1 .0) (l .inv .2) (p .ensures),
     )
 

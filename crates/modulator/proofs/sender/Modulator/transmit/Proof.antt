@@ -1,10 +1,10 @@
--- `Modulator::feed` meets its contract: a case for each variant.
+-- `Modulator::transmit` meets its contract: a case for each variant.
 use mathlib.Core.Path.{refl, sym, _∙_}
 use Rattle.modulator.specs.Sender.{told, toldOf, nextLine}
 use Rattle.modulator.proofs.Steps.{silence-sends, symbol-sends}
 use borrow.Author.Needs.{needs}
-use Rattle.modulator.proofs.sender.Modulator.feed.Statement.{statement}
-use Rattle.modulator.proofs.sender.Modulator.feed.Tie as tie
+use Rattle.modulator.proofs.sender.Modulator.transmit.Statement.{statement}
+use Rattle.modulator.proofs.sender.Modulator.transmit.Tie as tie
 
 enum-known-due : tie.Need-enum-known-due
 enum-known-due c = search needs
@@ -38,8 +38,8 @@ returns-3 c =
     let d = c .before .enum-told2 .given .1 in
     (rw d (c .shape2 .ensures .0), rw d (c .shape2 .ensures .1), λ n e. absurd (symbol-sends _ _ n (sym d ∙ e)))
 
-pub feed-spec : {M : Type 1} → statement M
-feed-spec =
+pub transmit-spec : {M : Type 1} → statement M
+transmit-spec =
     tie.close
     (tie.spec
     enum-known-due
