@@ -1,21 +1,49 @@
-# make demo      the main job, on a shipped example: bursts sent, received and printed
-# make test      every proof, every must-fail edit, every program and test; the gate
-# make compare   the same calls through this library and through the original Rust, answers compared
-# make bench     nanoseconds of every stage, beside the original Rust, from one driver in one run
-.PHONY: demo test compare bench
+# make demo        the main job, on a shipped example: bursts sent, received and printed
+# make build       every program and the library for C
+# make install     programs, library, header, pkg-config file and man pages, to DESTDIR/PREFIX (/usr/local)
+# make uninstall   takes away what make install put there
+# make test        every proof, every must-fail edit, every program and test; the gate
+# make compare     the same calls through this library and through the original Rust, answers compared
+# make bench       nanoseconds of every stage, beside the original Rust, from one driver in one run
+PREFIX = /usr/local
+DESTDIR =
+VERSION = 0.1.0
+
+PROGRAMS = tetra_rx tetra_tx listing replay
+BIN = $(DESTDIR)$(PREFIX)/bin
+INCLUDE = $(DESTDIR)$(PREFIX)/include
+LIB = $(DESTDIR)$(PREFIX)/lib
+MAN = $(DESTDIR)$(PREFIX)/share/man/man1
+
+.PHONY: demo build install uninstall test compare bench
 
 demo:
-	@rt check tetra_tx tetra_rx >/dev/null
+	@scripts/prove tetra_tx tetra_rx >&2
 	@target/bin/tetra_tx <examples/bursts.txt | target/bin/tetra_rx --no-bits
+
+build:
+	@scripts/prove $(PROGRAMS) libmodem.a
+
+install: build
+	install -d "$(BIN)" "$(INCLUDE)" "$(LIB)/pkgconfig" "$(MAN)"
+	for program in $(PROGRAMS); do install -m 755 target/bin/$$program "$(BIN)" || exit 1; done
+	for program in $(PROGRAMS); do install -m 644 man/$$program.1 "$(MAN)" || exit 1; done
+	install -m 644 include/tetra_modem.h "$(INCLUDE)"
+	install -m 644 target/staticlib/libmodem.a "$(LIB)"
+	sed -e 's|@PREFIX@|$(PREFIX)|' -e 's|@VERSION@|$(VERSION)|' include/tetra_modem.pc.in >"$(LIB)/pkgconfig/tetra_modem.pc"
+
+uninstall:
+	for program in $(PROGRAMS); do rm -f "$(BIN)/$$program" "$(MAN)/$$program.1"; done
+	rm -f "$(INCLUDE)/tetra_modem.h" "$(LIB)/libmodem.a" "$(LIB)/pkgconfig/tetra_modem.pc"
 
 test:
 	@tests/run
 
 compare:
-	@rt check replay >/dev/null
+	@scripts/prove replay
 	@compare/run full $$(cat tests/replay/kinds)
 
 bench:
-	@for crate in bench_signal modem; do rt staticlib $$crate >/dev/null 2>&1 || rt check $$crate || exit 1; done
+	@scripts/prove libbench_signal.a libmodem.a
 	@BENCH_LIBRARIES=$(CURDIR)/target/staticlib cargo run --quiet --offline --profile timed \
 		--features bench --bin bench --manifest-path compare/Cargo.toml --target-dir compare/target

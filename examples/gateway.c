@@ -1,5 +1,5 @@
-/* A small gateway over the C interface: it sends a downlink, passes it through a channel with noise and a frequency offset,
- * receives it in blocks, has an uplink receiver follow, and logs the slots. What is received is checked against what was
+/* A small gateway over the C interface: it sends a downlink, passes it through a channel with noise, a frequency offset and a
+ * gap, receives it in blocks, has an uplink receiver follow, and logs the slots. What is received is checked against what was
  * sent; the status is 1 where they differ. */
 #include <math.h>
 #include <stdio.h>
@@ -11,6 +11,8 @@
 #define BLOCK 512      /* samples that the radio hands over at a time */
 #define NOISE 0.1f     /* in each part, at most; a symbol's amplitude is about 1 */
 #define OFFSET 100.0   /* Hz */
+#define GAP 20480      /* at this sample the radio loses .. */
+#define LOST 5120      /* .. so many */
 #define RATE 72000.0   /* samples a second */
 #define TURN 6.283185307179586
 
@@ -101,6 +103,16 @@ static void channel(void)
     }
 }
 
+/* Judges the window's bits again, as a logger that kept them would. */
+static void judge(const struct tetra_receiver *receiver, const struct tetra_slot *taken)
+{
+    uint8_t answer[TETRA_ANSWER_BYTES];
+
+    if (tetra_judge(TETRA_DOWNLINK, receiver->state.full_bits, TETRA_SLOT_BITS, answer, sizeof answer) != TETRA_ACCEPTED ||
+        answer[0] != taken->full.train_type || answer[1] != taken->full.train_errs)
+        fault("judged otherwise", taken->time);
+}
+
 /* Logs a slot of the downlink. The receiver numbers from 1 on: `first` is the slot that it calls 1. */
 static void log_slot(const struct tetra_slot *taken, const uint8_t *bits, uint32_t *first)
 {
@@ -112,21 +124,25 @@ static void log_slot(const struct tetra_slot *taken, const uint8_t *bits, uint32
         *first = slot;
     }
     slot = taken->time + *first - 1;
-    if (slot < SLOTS && (taken->full.train_type != types[slot] || memcmp(bits, sent[slot], TETRA_SLOT_BITS) != 0))
+    if (slot >= SLOTS || (slot >= GAP / 1020 && slot <= (GAP + LOST) / 1020))
+        return;
+    if (taken->full.train_type != types[slot] || memcmp(bits, sent[slot], TETRA_SLOT_BITS) != 0)
         fault("not received as sent", slot);
     if (slot < 5)
         printf("downlink slot %u: type %u, %u errors\n", (unsigned)taken->time, (unsigned)taken->full.train_type,
                (unsigned)taken->full.train_errs);
 }
 
-/* Feeds a block, and takes every slot that it hands over. Returns how many. */
+/* Feeds a block, or zeros where it was lost, and takes every slot that it hands over. Returns how many. */
 static size_t feed(struct tetra_receiver *receiver, const float *block, size_t count, size_t counter, uint32_t *first)
 {
     uint8_t slot[TETRA_SLOT_BITS], half1[TETRA_HALF_SLOT_BITS], half2[TETRA_HALF_SLOT_BITS];
     size_t done = 0, slots = 0;
 
     while (done < count) {
-        struct tetra_fed fed = tetra_feed(receiver, block + 2 * done, count - done, (int64_t)(counter + done));
+        int64_t next = (int64_t)(counter + done);
+        struct tetra_fed fed = block == NULL ? tetra_feed_zeros(receiver, count - done, next)
+                                             : tetra_feed(receiver, block + 2 * done, count - done, next);
 
         done += fed.taken;
         if (fed.refusal != 0) {
@@ -137,8 +153,10 @@ static size_t feed(struct tetra_receiver *receiver, const float *block, size_t c
             struct tetra_taken taken = tetra_take(receiver, slot, sizeof slot, half1, sizeof half1, half2, sizeof half2);
 
             slots++;
-            if (first != NULL)
+            if (first != NULL) {
                 log_slot(&taken.slot, slot, first);
+                judge(receiver, &taken.slot);
+            }
         }
     }
     return slots;
@@ -157,8 +175,9 @@ int main(void)
     channel();
     for (size_t at = 0; at < samples; at += BLOCK) {
         size_t count = samples - at < BLOCK ? samples - at : BLOCK;
+        const float *block = at >= GAP && at < GAP + LOST ? NULL : air + 2 * at;
 
-        down += feed(&downlink, air + 2 * at, count, at, &first);
+        down += feed(&downlink, block, count, at, &first);
         if (tetra_follow(&uplink, &downlink) != TETRA_ACCEPTED)
             fault("the uplink does not follow", (uint32_t)at);
         up += feed(&uplink, quiet, count, at, NULL);

@@ -1,16 +1,36 @@
-/* The C interface of the TETRA slot modem: target/staticlib/libmodem.a, built by `rt staticlib modem`, for x86-64.
+/* The C interface of the TETRA slot modem, for x86-64. Link libmodem.a, which needs nothing else but memcpy and memset.
+ *
+ * Raw samples in (f32 re and im in turn, 72,000 a second), a line for each slot out:
+ *
+ *     #include <stdio.h>
+ *     #include <tetra_modem.h>
+ *
+ *     int main(void)
+ *     {
+ *         static struct tetra_receiver receiver;
+ *         uint8_t bits[510], half1[254], half2[254];
+ *         float sample[2];
+ *
+ *         tetra_receiver_init(&receiver, TETRA_MODE_DL_SEARCHING);
+ *         for (int64_t counter = 0; fread(sample, sizeof sample, 1, stdin) == 1; counter++)
+ *             if (tetra_feed(&receiver, sample, 1, counter).slot) {
+ *                 struct tetra_slot slot = tetra_take(&receiver, bits, 510, half1, 254, half2, 254).slot;
+ *                 printf("slot=%u type=%u errors=%zu\n", slot.time, slot.full.train_type, slot.full.train_errs);
+ *             }
+ *     }
+ *
+ * Receivers, senders, burst builders and the call logger's call follow, each in a group of its own; examples/gateway.c uses
+ * them all.
  *
  * A slice is passed as a pointer and then a length, counted in elements. The pointer must not be NULL, also where the
  * length is 0, and must be valid for that many elements; a slice that a call may write must not overlap another one of the
  * same call. Within that, every call returns for every input. The library keeps no state of its own, allocates nothing, and
- * its calls may run in several threads at once.
+ * its calls may run in several threads at once. A call needs less than 64 KB of stack.
  *
- * A receiver lives in the caller's memory, 26,536 bytes, and its calls take a pointer to it; several receivers share nothing.
- * A sender is a struct of 260 bytes that goes in by value; the next one comes back. Leave both as the calls leave them: then
- * each answer is what the contracts say of the calls made so far. A struct with other numbers is safe too: a number that no
- * call could have left counts as a valid one (a mode above 3 as Idle, a time out of range as 0, a slot number modulo its
- * range, a view that does not fit its window as none, a bit byte modulo 2). Only the flags of type bool must hold 0 or 1. A
- * call needs less than 64 KB of stack.
+ * Receivers and senders are structs of the caller's. Leave them as the calls leave them: then each answer is what the
+ * contracts say of the calls made so far. A struct with other numbers is safe too: a number that no call could have left
+ * counts as a valid one (a mode above 3 as Idle, a time out of range as 0, a slot number modulo its range, a view that does
+ * not fit its window as none, a bit byte modulo 2). Only the flags of type bool must hold 0 or 1.
  */
 #ifndef TETRA_MODEM_H
 #define TETRA_MODEM_H
@@ -38,11 +58,6 @@ extern "C" {
 #define TETRA_NEED_MORE 12u     /* the sender needs the next slot */
 #define TETRA_NOT_FOLLOWING 13u /* the receiver told to follow finds its own timing: its mode is 1 or 2 */
 
-/* Slot kinds, and how many bits their windows have. */
-#define TETRA_DOWNLINK 0u    /* 510 */
-#define TETRA_UPLINK_FULL 1u /* 510 */
-#define TETRA_UPLINK_HALF 2u /* 254 */
-
 /* Burst types: the training sequence that was found. */
 #define TETRA_NONE 0u
 #define TETRA_NORMAL_1 1u
@@ -50,17 +65,32 @@ extern "C" {
 #define TETRA_EXTENDED 3u
 #define TETRA_SYNC 4u
 
+#define TETRA_SLOT_BITS 510u
+#define TETRA_HALF_SLOT_BITS 254u
+
+/* ---- Receivers
+ *
+ * A receiver lives in the caller's memory, 26,536 bytes, and its calls take a pointer to it; several receivers share nothing.
+ * It is made with tetra_receiver_init, fed with tetra_feed, and asked with tetra_take for each slot that is handed over.
+ *
+ * Counters. Each sample has a number, from 0 on. A downlink receiver numbers its slots from 1 at each lock. An uplink
+ * receiver follows a downlink one (tetra_follow), so both must be fed on one axis of counters: samples that were received at
+ * the same time have the same counter. The uplink's numbers are 2 less than the downlink's, wrapping: the first may be
+ * 283,115,518 or 283,115,519, which stand for -2 and -1. Counters end with 137,438,953,471, after 22.1 days: then begin anew
+ * with new receivers.
+ *
+ * Gaps. Where a sample's counter shows that others are missing, zeros stand in for at most the last 1,020 of them, a slot's
+ * length. After a longer gap older samples stand in the place of missing ones, and a burst can be handed over under a later
+ * slot's number with 0 errors: of examples/bursts.txt as tetra_tx sends it, with the samples 6,130 to 8,169 missing, the
+ * burst of slot 5 is handed over as slot 6. So call tetra_feed_zeros for the whole of every gap; then each burst keeps its
+ * number. It also hands over each slot of the gap, of which one call of tetra_sample or tetra_feed would keep the last alone.
+ */
+
 /* Modes of a receiver. */
 #define TETRA_MODE_IDLE 0u         /* hands no slot over */
 #define TETRA_MODE_DL_SEARCHING 1u /* downlink, looks for a synchronization burst */
 #define TETRA_MODE_DL 2u           /* downlink, slot timing known */
 #define TETRA_MODE_UL 3u           /* uplink, slot timing taken from a downlink receiver */
-
-#define TETRA_ANSWER_BYTES 6u
-#define TETRA_SLOT_BITS 510u
-#define TETRA_HALF_SLOT_BITS 254u
-#define TETRA_STATE_BYTES 1960u
-#define TETRA_PAST 2048u
 
 /* A burst that was found in a window: a view of the window's bits. */
 struct tetra_burst {
@@ -84,8 +114,12 @@ struct tetra_filter {
     float im[32];
 };
 
+#define TETRA_STATE_BYTES 1960u
+#define TETRA_PAST 2048u
+
 /* All of a receiver but its past. To be read, if at all: a caller need write none of it. The bits are those of the windows of
- * the slot that was handed over last, one byte a bit, 510 of the slot and 254 of each half: what tetra_judge judges. */
+ * the slot that was handed over last, one byte a bit, 510 of the slot and the first 254 for each half: what tetra_judge
+ * judges. */
 struct tetra_state {
     uint8_t mode;
     int64_t reference_time;
@@ -134,28 +168,7 @@ struct tetra_taken {
     struct tetra_slot slot;
 };
 
-/* A sender's state: the filter line, and the phase of the last symbol in eighths of a turn (any number counts modulo 8). */
-struct tetra_sender {
-    struct tetra_filter filter;
-    uint8_t phase;
-};
-
-/* What a block of sent samples came to. */
-struct tetra_sent {
-    size_t count;     /* so many samples were written */
-    uint32_t refusal; /* the refusal of the next sample, or 0 */
-    struct tetra_sender sender;
-};
-
-/* A sent sample, or the refusal; then the parts are 0. */
-struct tetra_sent_sample {
-    uint32_t refusal;
-    float re;
-    float im;
-    struct tetra_sender sender;
-};
-
-/* ---- The library's own calls on a receiver: its state goes by value and the next one comes back, its past is lent. The calls
+/* The library's own calls on a receiver: its state goes by value and the next one comes back, its past is lent. The calls
  * below these are what a gateway uses. */
 
 struct tetra_state_answered {
@@ -189,8 +202,6 @@ struct tetra_state_taken tetra_state_take(struct tetra_state state, uint8_t *slo
 
 struct tetra_state_answered tetra_state_follow(struct tetra_state state, struct tetra_state other);
 
-/* ---- Receivers */
-
 /* Makes a receiver anew.
  *
  * mode: one of TETRA_MODE_..; any other number counts as Idle. A downlink receiver starts with TETRA_MODE_DL_SEARCHING, an
@@ -210,8 +221,8 @@ static inline void tetra_receiver_init(struct tetra_receiver *receiver, uint32_t
 /* Takes one sample.
  *
  * re, im: its parts.
- * counter: its number, at least the one after the last accepted sample (0 when new). Where samples are missing in between,
- *   zeros stand in for at most the last 1,020 of them.
+ * counter: its number, at least the one after the last accepted sample (0 when new). Where it is larger, samples are missing:
+ *   see "Gaps" above.
  *
  * Returns the refusal, 0, 1, 2 or 10. A slot may be handed over: tetra_take tells.
  * Cost: a fraction of a microsecond, since the state is copied a few times: tetra_feed is much faster for a row of samples.
@@ -245,6 +256,29 @@ static inline struct tetra_fed tetra_feed(struct tetra_receiver *receiver, const
     return told;
 }
 
+/* Takes zeros for samples that are missing, as tetra_feed would a block of them.
+ *
+ * n: how many; first: the counter of the first that is missing.
+ *
+ * It stops as tetra_feed does: where `slot` is true take the slot, then go on with n - taken zeros from first + taken on.
+ * Cost: as tetra_feed.
+ */
+static inline struct tetra_fed tetra_feed_zeros(struct tetra_receiver *receiver, size_t n, int64_t first)
+{
+    static const float zeros[2 * 1020] = { 0.0f };
+    struct tetra_fed told = { 0, false, TETRA_ACCEPTED };
+
+    while (told.taken < n && !told.slot && told.refusal == TETRA_ACCEPTED) {
+        size_t left = n - told.taken;
+        struct tetra_fed fed = tetra_feed(receiver, zeros, left < 1020 ? left : 1020, first + (int64_t)told.taken);
+
+        told.taken += fed.taken;
+        told.slot = fed.slot;
+        told.refusal = fed.refusal;
+    }
+    return told;
+}
+
 /* Takes the slot that was handed over last.
  *
  * slot, subslot1, subslot2: 510, 254 and 254 bytes that are lent for the call. An accepted call fills each with a view's
@@ -266,7 +300,7 @@ static inline struct tetra_taken tetra_take(struct tetra_receiver *receiver, uin
 
 /* Has an uplink receiver follow the slot timing of a downlink one.
  *
- * receiver: in mode Idle or Ul; a receiver that finds its own timing is refused.
+ * receiver: in mode Idle or Ul, on the other's axis of counters; a receiver that finds its own timing is refused.
  * other: the one to follow. If it searches, the receiver turns Idle; if it is locked, the receiver turns Ul and takes over
  *   its reference time, and an Idle one its last slot number too. The other moves its reference time as it tracks its
  *   carrier: give the order again from time to time, as after each slot.
@@ -281,7 +315,31 @@ static inline uint32_t tetra_follow(struct tetra_receiver *receiver, const struc
     return answered.refusal;
 }
 
-/* ---- Senders */
+/* ---- Senders
+ *
+ * A sender is a struct of 260 bytes that goes in by value; the next one comes back.
+ */
+
+/* A sender's state: the filter line, and the phase of the last symbol in eighths of a turn (any number counts modulo 8). */
+struct tetra_sender {
+    struct tetra_filter filter;
+    uint8_t phase;
+};
+
+/* What a block of sent samples came to. */
+struct tetra_sent {
+    size_t count;     /* so many samples were written */
+    uint32_t refusal; /* the refusal of the next sample, or 0 */
+    struct tetra_sender sender;
+};
+
+/* A sent sample, or the refusal; then the parts are 0. */
+struct tetra_sent_sample {
+    uint32_t refusal;
+    float re;
+    float im;
+    struct tetra_sender sender;
+};
 
 /* A new sender: nothing sent so far, phase 0. Cost: the struct is filled once. */
 struct tetra_sender tetra_sender_new(void);
@@ -313,7 +371,10 @@ struct tetra_sent_sample tetra_send_sample(struct tetra_sender sender, int64_t c
 struct tetra_sent tetra_send(struct tetra_sender sender, int64_t first, uint32_t slot, uint32_t has_bits, const uint8_t *bits,
                              size_t bits_len, float *out, size_t out_len);
 
-/* ---- Burst builders */
+/* ---- Burst builders
+ *
+ * They need no state: blocks in, the 510 bits of a downlink burst out.
+ */
 
 /* Builds a synchronization burst (EN 300 392-2, 9.4.4.2.6).
  *
@@ -336,9 +397,22 @@ uint32_t tetra_build_sync(const uint8_t *blk1, size_t blk1_len, const uint8_t *b
 uint32_t tetra_build_normal(uint32_t train, const uint8_t *blk1, size_t blk1_len, const uint8_t *bbk, size_t bbk_len,
                             const uint8_t *blk2, size_t blk2_len, uint8_t *bits, size_t bits_len);
 
-/* ---- The call logger */
+/* ---- The call logger
+ *
+ * It judges the kept bits of a window again, as the receiver judged them. The bits are those of the receiver's state, to be
+ * kept when its slot is taken, before more samples are fed: of a downlink receiver state.full_bits, kind 0; of an uplink one
+ * state.full_bits, kind 1, and the first 254 of state.subslot1_bits and state.subslot2_bits, kind 2. (What tetra_take fills
+ * in is the burst's own part of them, and zeros where none was found.)
+ */
 
-/* Judges a window's kept bits again, as the receiver judged them.
+/* Slot kinds, and how many bits their windows have. */
+#define TETRA_DOWNLINK 0u    /* 510 */
+#define TETRA_UPLINK_FULL 1u /* 510 */
+#define TETRA_UPLINK_HALF 2u /* 254 */
+
+#define TETRA_ANSWER_BYTES 6u
+
+/* Judges a window's kept bits.
  *
  * bits: one byte a bit, 0 or 1; 510 of them for kinds 0 and 1, 254 for kind 2.
  * answer: 6 bytes that are lent for the call. An accepted call fills them:
