@@ -116,21 +116,62 @@ static void gaps(void)
     size_t alone = 0;
 
     expect("no gap", (int64_t)with_gap(7000, 0, false), 0);
-    for (size_t at = 6000; at < 6000 + SLOT_SAMPLES; at += 15)
-        for (size_t n = 1; n < 5000; n += 3 * 113) { /* 2,035 and 4,069 among them, no whole slots */
-            expect("a gap with zeros", (int64_t)with_gap(at, n, true), 0);
-        }
     for (size_t at = 6000; at < 6000 + SLOT_SAMPLES; at += 15) {
         alone += with_gap(at, 2 * SLOT_SAMPLES, false);
+        for (size_t n = 1; n < 5000; n += 339)
+            expect("a gap with zeros", (int64_t)with_gap(at, n, true), 0);
         expect("two slots with zeros", (int64_t)with_gap(at, 2 * SLOT_SAMPLES, true), 0);
     }
-    printf("%zu of 68 gaps of two slots, with no zeros fed, hand a burst over under another number\n", alone);
+    printf("%zu of 68 gaps of two slots, where no zeros are fed, hand a burst over under another number\n", alone);
     expect("a gap alone can misplace a burst", alone > 0, 1);
+}
+
+/* Zeros are taken as tetra_feed takes a block of them, and stop where it stops. */
+static void as_a_block(void)
+{
+    static struct tetra_receiver r, s;
+    static const float quiet[2 * 5000];
+
+    tetra_receiver_init(&r, TETRA_MODE_DL_SEARCHING);
+    feed(&r, 0, 6000, false);
+    s = r;
+    for (size_t done = 0; done < 5000;) {
+        struct tetra_fed block = tetra_feed(&r, quiet, 5000 - done, 6000 + (int64_t)done);
+        struct tetra_fed zeros = tetra_feed_zeros(&s, 5000 - done, 6000 + (int64_t)done);
+
+        expect("zeros, taken", (int64_t)zeros.taken, (int64_t)block.taken);
+        expect("zeros, slot", zeros.slot, block.slot);
+        expect("zeros, refusal", zeros.refusal, block.refusal);
+        expect("zeros, past", memcmp(&r.past, &s.past, sizeof r.past), 0);
+        expect("zeros, next counter", s.state.next_input_sample_count, r.state.next_input_sample_count);
+        if (zeros.taken == 0)
+            break;
+        done += zeros.taken;
+    }
+}
+
+static void stops(const char *what, size_t n, int64_t first, size_t taken, uint32_t refusal)
+{
+    static struct tetra_receiver r;
+    struct tetra_fed fed;
+
+    tetra_receiver_init(&r, TETRA_MODE_DL_SEARCHING);
+    expect(what, tetra_sample(&r, 0.0f, 0.0f, 99), TETRA_ACCEPTED);
+    fed = tetra_feed_zeros(&r, n, first);
+    expect(what, (int64_t)fed.taken, (int64_t)taken);
+    expect(what, fed.slot, 0);
+    expect(what, fed.refusal, refusal);
 }
 
 int main(void)
 {
     send_all();
     gaps();
+    as_a_block();
+    stops("no zeros", 0, 100, 0, TETRA_ACCEPTED);
+    stops("many zeros", 1000000, 100, 1000000, TETRA_ACCEPTED);
+    stops("a past counter", 2000, 99, 0, TETRA_PAST_COUNTER);
+    stops("a counter below 0", 2000, -1, 0, TETRA_BAD_COUNTER);
+    stops("the last counter", 5000, LARGEST - 3000, 3001, TETRA_BAD_COUNTER);
     return faults == 0 ? 0 : 1;
 }
