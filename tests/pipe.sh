@@ -47,6 +47,14 @@ tetra_rx: sample 9000 refused=1, taken as missing; more such are counted
 tetra_rx: the last 3 bytes are no whole sample
 tetra_rx: 13244 samples, 11 slots, 1 samples refused, locked\n'
 
+# A gap of two slots, samples 6,130 to 8,169, whose bytes are no number: the burst of slot 5 is printed as slot 6, as
+# docs/DIFFERENCES.md says. With zeros in their place it keeps its number.
+gap() { head -c 49040 "$work/sent"; head -c 16320 /dev/zero | tr '\0' "$1"; tail -c +65361 "$work/sent"; }
+burst=$(sed -n 's/^slot=5 //p' "$work/lines")
+gap '\377' | "$rx" >"$work/out" 2>"$work/err"
+grep -qx "slot=6 $burst" "$work/out" || fail "a gap that is not filled: slot 6 is another one"
+gap '\0' | "$rx" --quiet | grep -qx "slot=5 $burst" || fail "a gap that is filled"
+
 # What cannot be written is told.
 if [ -w /dev/full ]; then
     "$rx" --quiet <"$work/sent" >/dev/full 2>"$work/err"
