@@ -21,7 +21,7 @@ else
 fi
 cp examples/gateway.c "$work"
 (cd "$work" && gcc -std=c11 -Wall -Wextra -Werror -O2 -o gateway gateway.c $flags -lm && ./gateway >log) || fail "gateway.c: $flags"
-echo "install: examples/gateway.c is built through pkg-config and right"
+echo "install: examples/gateway.c, built with the flags of tetra_modem.pc, is right"
 
 printf 'empty\nsync %0366d\nnormal1 %0462d\n' 0 0 | "$there/bin/tetra_tx" | "$there/bin/tetra_rx" --quiet --no-bits >"$work/lines"
 printf 'slot=1 type=sync errors=0\nslot=2 type=normal1 errors=0\n' | cmp - "$work/lines" || fail "the programs"
