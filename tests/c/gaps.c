@@ -116,13 +116,13 @@ static void gaps(void)
     size_t alone = 0;
 
     expect("no gap", (int64_t)with_gap(7000, 0, false), 0);
-    for (size_t at = 6000; at < 6000 + SLOT_SAMPLES; at += 15) {
+    for (size_t at = 6000; at < 6000 + SLOT_SAMPLES; at += 30) {
         alone += with_gap(at, 2 * SLOT_SAMPLES, false);
-        for (size_t n = 1; n < 5000; n += 339)
+        for (size_t n = 500; n < 5000; n += 1130)
             expect("a gap with zeros", (int64_t)with_gap(at, n, true), 0);
         expect("two slots with zeros", (int64_t)with_gap(at, 2 * SLOT_SAMPLES, true), 0);
     }
-    printf("%zu of 68 gaps of two slots, where no zeros are fed, hand a burst over under another number\n", alone);
+    printf("%zu of 34 gaps of two slots, where no zeros are fed, hand a burst over under another number\n", alone);
     expect("a gap alone can misplace a burst", alone > 0, 1);
 }
 
