@@ -5,7 +5,7 @@ use tetra_modem::demodulator::{Demodulator, Fed, Mode, Stop};
 use tetra_modem::dsp_types::{ComplexSample, SampleCount};
 use tetra_modem::logger::{judge, Judged, SlotType};
 use tetra_modem::modulator::{self, Modulator};
-use tetra_modem::rxtx_dev::TxSlotBits;
+use tetra_modem::rxtx_dev::{RxBurstBits, TxSlotBits};
 use tetra_modem::slotter::{build_ndb, build_sdb};
 use tetra_modem::TrainingSequence::{self, *};
 use tetra_modem::{Refusal, TdmaTime};
@@ -99,6 +99,21 @@ fn check_slot(receiver: &mut Demodulator) -> usize {
     number
 }
 
+fn told(burst: &RxBurstBits) -> Judged {
+    let &RxBurstBits {
+        train_type,
+        train_errs,
+        burst_pos,
+        ..
+    } = burst;
+    Judged {
+        train_type,
+        train_errs,
+        burst_pos,
+        burst_len: burst.bits.len(),
+    }
+}
+
 #[test]
 fn received_as_sent() {
     let air = send();
@@ -124,26 +139,31 @@ fn an_uplink_receiver_follows() {
         Demodulator::new(Mode::DlUnsynchronized),
         Demodulator::new(Mode::Idle),
     );
-    let (mut down, mut numbers) = (0, Vec::new());
+    let (mut down, mut found, mut numbers) = (0, 0, Vec::new());
     for (counter, &sample) in air.iter().enumerate() {
         downlink.sample(sample, counter as SampleCount).unwrap();
         if downlink.demodulated_slot_available() {
             down = check_slot(&mut downlink);
             uplink.sync_to_demodulator(&downlink).unwrap();
         }
-        uplink
-            .sample(ComplexSample::ZERO, counter as SampleCount)
-            .unwrap();
+        // Of normal bursts the uplink's windows hold the training sequence too.
+        uplink.sample(sample, counter as SampleCount).unwrap();
         if let Some(slot) = uplink.take_demodulated_slot() {
             assert_eq!(
                 slot.time,
                 TdmaTime::from_int(down as i32 - 2),
                 "2 less, wrapping"
             );
-            assert_eq!((slot.slot.train_type, slot.slot.bits.len()), (NotFound, 0));
             numbers.push(slot.time.to_int());
+            let views = [&slot.slot, &slot.subslot1, &slot.subslot2].map(told);
+            let windows = uplink.window_bits();
+            assert_eq!(judge(SlotType::UlFull, windows.slot), Ok(views[0]));
+            assert_eq!(judge(SlotType::UlSub, windows.subslot1), Ok(views[1]));
+            assert_eq!(judge(SlotType::UlSub, windows.subslot2), Ok(views[2]));
+            found += usize::from(views[0].burst_len == 462);
         }
     }
+    assert!(found > SLOTS / 2);
     assert_eq!(uplink.mode(), Mode::Ul);
     assert_eq!(numbers[..3], [283_115_519, 0, 1]);
     assert_eq!(
