@@ -13,7 +13,8 @@ use lib.Dec.{leb, ltb}
 use lib.Ieee.{Float}
 use borrow.Author.Tests.{le-leb, leb-false, ltb-false, eqb-true}
 use Rattle.dsp_types.specs.declared.ComplexSample.{ComplexSample}
-use Rattle.dsp_types.specs.Ints.{up, dn, sum, less, same, eqZ, ltZ-no}
+use Rattle.dsp_types.specs.Ints.{up, dn, eqZ}
+use Rattle.dsp_types.proofs.IntLaws.{sum, less, same, ltZ-no}
 use Rattle.dsp_types.specs.Refusals.{beyond, outOfCount, counters, lastCounter}
 use Rattle.dsp_types.specs.Samples.{silence}
 use Rattle.dsp_types.specs.Times.{slots, slotOf}

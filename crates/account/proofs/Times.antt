@@ -6,7 +6,8 @@ use native.Mathlib.Omega.{arith}
 use native.Mathlib.Nat.{mod-eq-of-lt, div-eq-of-lt}
 use lib.IntN.{ℤ, pos, negsuc, negℤ, _+ℤ_, _-ℤ_, _*ℤ_}
 use lib.Signed.{quotZ}
-use Rattle.dsp_types.specs.Ints.{up, dn, sum, less, same, ltZ-yes, ltZ-no, eqZ, eqZ-yes, eqZ-no, up-neg, dn-neg}
+use Rattle.dsp_types.specs.Ints.{up, dn, eqZ}
+use Rattle.dsp_types.proofs.IntLaws.{sum, less, same, ltZ-yes, ltZ-no, eqZ-yes, eqZ-no, up-neg, dn-neg}
 use Rattle.dsp_types.specs.Times.{slots, slotOf, divEuclid, divisor}
 use Rattle.demodulator.specs.Receiver.{far, slotsToSkip, foundTime, missing}
 

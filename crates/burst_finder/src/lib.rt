@@ -75,7 +75,7 @@ fn even_placings(n: usize, m: usize) -> usize
 
 // The even placing with the fewest differences, the earliest on a tie, where it has fewer than the limit; else place 0 and the limit. A low limit makes
 // for a quick search: a placing is left where it can't be better any more.
-fn find_below(bits: &[u8], sequence: &[u8], limit: usize) -> Found
+fn find_sequence(bits: &[u8], sequence: &[u8], limit: usize) -> Found
     requires { ⌜ limit ≤ length (now sequence) ⌝ }
     ensures { λ r. ⌜ r ≡ below limit (findSequence (now (bits .entry)) (now (sequence .entry))) ⌝ }
 {
@@ -104,14 +104,6 @@ fn find_below(bits: &[u8], sequence: &[u8], limit: usize) -> Found
     }
 }
 
-// The even placing with the fewest differences, the earliest on a tie; place 0 and every bit wrong where none has fewer. For an empty sequence that is
-// place 0 and none wrong.
-pub fn find_sequence(bits: &[u8], sequence: &[u8]) -> Found
-    ensures { λ r. ⌜ r ≡ findSequence (now (bits .entry)) (now (sequence .entry)) ⌝ }
-{
-    find_below(bits, sequence, sequence.len())
-}
-
 // The search of a receiver that is not synchronized: from bit 216 on, so that the burst found can still be received whole. The place counts from there. A
 // placing with more differences than are accepted would not do: then it is place 0 with one more than those.
 pub fn find_sync(bits: &[u8]) -> Found
@@ -123,7 +115,7 @@ pub fn find_sync(bits: &[u8]) -> Found
             dist: TOO_MANY,
         };
     }
-    find_below(&bits[216..], &SEQ_SYNC, TOO_MANY)
+    find_sequence(&bits[216..], &SEQ_SYNC, TOO_MANY)
 }
 
 impl Finding {
@@ -155,7 +147,7 @@ fn check_sequence(
         return Finding::not_found();
     }
     let end = bits.len() - burst_len + train_pos + train_bits.len();
-    let found = find_below(&bits[train_pos..end], train_bits, max_errs + 1);
+    let found = find_sequence(&bits[train_pos..end], train_bits, max_errs + 1);
     if found.dist <= max_errs {
         Finding {
             train_type,

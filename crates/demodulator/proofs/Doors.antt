@@ -10,7 +10,8 @@ use lib.Signed.{mag, ltZ}
 use borrow.Author.Tests.{leb-true, ltb-false}
 use Rattle.dsp_types.specs.declared.ComplexSample.{ComplexSample}
 use Rattle.dsp_types.specs.Refusals.{beyond, outOfCount, counters, lastCounter}
-use Rattle.dsp_types.specs.Ints.{up, dn, less}
+use Rattle.dsp_types.specs.Ints.{up, dn}
+use Rattle.dsp_types.proofs.IntLaws.{less}
 use Rattle.dsp_types.specs.Times.{slots}
 use Rattle.dsp_types.specs.Samples.{silence}
 use Rattle.demodulator.specs.Receiver.{Receiver, withClock, withLock, withNext, processSample, missing, feedZeros}

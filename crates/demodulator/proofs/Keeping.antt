@@ -9,7 +9,8 @@ use lib.ListN.{length}
 use lib.IntN.{ℤ, pos, negsuc, _+ℤ_, _-ℤ_}
 use lib.Signed.{ltZ, mag}
 use Rattle.dsp_types.specs.declared.ComplexSample.{ComplexSample}
-use Rattle.dsp_types.specs.Ints.{up, dn, sum, less, same, parts, ltZ-no, ltZ-false, eqZ, eqZ-no}
+use Rattle.dsp_types.specs.Ints.{up, dn, eqZ}
+use Rattle.dsp_types.proofs.IntLaws.{sum, less, same, parts, ltZ-no, ltZ-false, eqZ-no}
 use Rattle.dsp_types.specs.Times.{slots}
 use Rattle.dsp_types.specs.Refusals.{beyond, lastCounter, outOfCount, counters}
 use Rattle.fir.specs.Fir.{lineAfter, outsOf}

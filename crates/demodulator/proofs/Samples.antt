@@ -7,7 +7,8 @@ use native.Mathlib.Omega.{arith}
 use lib.IntN.{ℤ, pos, negsuc, _-ℤ_}
 use lib.Signed.{mag, ltZ}
 use borrow.Author.Tests.{le-ltb}
-use Rattle.dsp_types.specs.Ints.{up, dn, less}
+use Rattle.dsp_types.specs.Ints.{up, dn}
+use Rattle.dsp_types.proofs.IntLaws.{less}
 use Rattle.dsp_types.specs.Refusals.{outOfCount, lastCounter}
 use Rattle.dsp_types.specs.Samples.{silence}
 use Rattle.demodulator.specs.Receiver.{Receiver, processSample, missing, feedZeros}

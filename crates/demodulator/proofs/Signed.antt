@@ -14,7 +14,8 @@ use mir.Syntax.{w32, w64}
 use lib.Signed.{mag}
 use mir.Val.{SFits, toZ, ofZ}
 use mir.ValLaws.{toZ-ofZ}
-use Rattle.dsp_types.specs.Ints.{up, dn, sum, less, up-neg, dn-neg, eqZ}
+use Rattle.dsp_types.specs.Ints.{up, dn, eqZ}
+use Rattle.dsp_types.proofs.IntLaws.{sum, less, up-neg, dn-neg}
 use Rattle.dsp_types.specs.Times.{divEuclid, divisor, slotOf, slots}
 use Rattle.demodulator.specs.Bounds.{Within, Counter}
 

@@ -9,7 +9,7 @@ use lib.ListN.{length, getD, set, take, drop, replicate, drop-of-length-le}
 use lib.Seq.{take-all, drop-at, length-take-le}
 use borrow.Author.Tests.{ne-eqb, eqb-true, le-leb}
 use Rattle.dsp_types.specs.Samples.{zeroF, silence}
-use Rattle.dsp_types.specs.Ring.{ring-zeros, sample-zeros, newest-same}
+use Rattle.dsp_types.proofs.RingLaws.{ring-zeros, sample-zeros, newest-same}
 use Rattle.dsp_types.specs.Refusals.{wrongLength}
 use Rattle.dsp_types.specs.Times.{slots}
 use Rattle.history.specs.History.{heldIn, samplesIn}

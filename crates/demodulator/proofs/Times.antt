@@ -9,7 +9,7 @@ use lib.ListN.{length}
 use lib.IntN.{ℤ, pos, negsuc, negℤ, _+ℤ_, _-ℤ_, _*ℤ_}
 use lib.Signed.{quotZ}
 use lib.Ieee.{Float}
-use Rattle.dsp_types.specs.Ints.{sum, less, same, up-neg, dn-neg}
+use Rattle.dsp_types.proofs.IntLaws.{sum, less, same, up-neg, dn-neg}
 use Rattle.dsp_types.specs.Times.{slots, slotOf}
 use Rattle.timing.specs.Tracking.{late, early}
 use Rattle.burst_finder.specs.declared.Found.{Found}

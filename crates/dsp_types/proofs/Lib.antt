@@ -1,2 +1,4 @@
 mod Signs
 mod Bits
+pub mod IntLaws
+pub mod RingLaws

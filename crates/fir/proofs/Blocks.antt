@@ -11,7 +11,8 @@ use lib.Seq.{drop-append-le, drop-drop, take-at, take-all, take-length, length-t
 use lib.Ieee.{Float, nan}
 use Rattle.dsp_types.specs.declared.ComplexSample.{ComplexSample}
 use Rattle.dsp_types.specs.Samples.{zeroF, silence, ago}
-use Rattle.dsp_types.specs.Ring.{newest, le-or-lt}
+use Rattle.dsp_types.specs.Ring.{newest}
+use Rattle.dsp_types.proofs.RingLaws.{le-or-lt}
 use Rattle.fir.specs.Fir.{firOf, filterOf, inRow, rowOuts, filterRow, startWith, lineAfter, outsOf, samplesOf, blockOf, reOf, imOf, lineOf}
 use Rattle.fir.specs.declared.FirComplexSym.{FirComplexSym}
 use Rattle.fir.proofs.Laws.{fir-cong}

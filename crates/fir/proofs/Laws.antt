@@ -8,7 +8,8 @@ use lib.Seq.{take-all, drop-cons, drop-drop, set-at, take-at, drop-at, append-sn
 use lib.Ieee.{Float, nan}
 use Rattle.dsp_types.specs.declared.ComplexSample.{ComplexSample}
 use Rattle.dsp_types.specs.Samples.{silence, ago}
-use Rattle.dsp_types.specs.Ring.{Agree, newest, newest-newer, newer-ago, newest-same, newest-at}
+use Rattle.dsp_types.specs.Ring.{Agree, newest}
+use Rattle.dsp_types.proofs.RingLaws.{newest-newer, newer-ago, newest-same, newest-at}
 use Rattle.fir.specs.Fir.{termOf, laneUpTo, laneOf, firOf, filterOf, filteredOf, LineOf, lineAfter, outsOf, samplesOf, blockOf, startWith}
 
 -- ---- the filter reads the newest 32 and no other

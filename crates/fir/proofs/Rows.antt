@@ -10,7 +10,8 @@ use lib.Seq.{drop-cons, drop-drop, take-all, getD-at, getD-drop, getD-set-same, 
 use lib.Ieee.{Float, binary32, add, mul, nan}
 use Rattle.dsp_types.specs.declared.ComplexSample.{ComplexSample}
 use Rattle.dsp_types.specs.Samples.{zeroF, silence, ago, newer}
-use Rattle.dsp_types.specs.Ring.{le-or-lt, Agree, newest, newest-newer, newest-at}
+use Rattle.dsp_types.specs.Ring.{Agree, newest}
+use Rattle.dsp_types.proofs.RingLaws.{le-or-lt, newest-newer, newest-at}
 use Rattle.fir.specs.Fir.{taps, termOf, laneUpTo, laneOf, firOf, filterOf, inRow, rowOuts}
 use Rattle.fir.proofs.Laws.{filter-cong}
 

@@ -69,7 +69,7 @@ fn room(row: usize, out: usize) -> usize
 
 // One part of a block. The row holds 31 old samples and the block, oldest first; output n has row[n + 31] as
 // its newest sample. What the row is too short for is left as it was.
-pub fn filter_block(row: &[f32], out: &mut [f32])
+fn filter_block(row: &[f32], out: &mut [f32])
     ensures { λ _. ⌜ now (out .exit) ≡ filterRow (now (row .entry)) (now (out .entry)) ⌝ }
 {
     let count = room(row.len(), out.len());

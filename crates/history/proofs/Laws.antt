@@ -12,7 +12,8 @@ use lib.Seq.{take-suc}
 use lib.Ieee.{Float, nan}
 use Rattle.dsp_types.specs.declared.ComplexSample.{ComplexSample}
 use Rattle.dsp_types.specs.Samples.{zeroF, silence, ago}
-use Rattle.dsp_types.specs.Ring.{slot, ringAt, ringSample, next, newest, newest-newer, newer-ago, ring-newer, sample-newer, newest-same, newest-at}
+use Rattle.dsp_types.specs.Ring.{placeOf, ringAt, ringSample, next, newest}
+use Rattle.dsp_types.proofs.RingLaws.{newest-newer, newer-ago, ring-newer, sample-newer, newest-same, newest-at}
 use Rattle.history.specs.History.{heldIn, samplesIn, heldAfter, PastOf, AbsOf}
 
 -- ---- rings of any length, with an index that counts modulo it
@@ -46,7 +47,7 @@ samples-write re im at x v w = sample-write 2048 re im at x v w (lit< tt)
 
 pub recalled : (ring : List Float) (at delay : ℕ)
     → getD ring ((at % 2048 + 2048 - delay % 2048) % 2048) nan ≡ ago zeroF (heldIn ring at) (delay % 2048)
-unfolding heldIn ringAt slot
+unfolding heldIn ringAt placeOf
 recalled ring at delay = sym (newest-at 2048 (ringAt nan 2048 ring (at % 2048)) zeroF (delay % 2048) (mod-lt delay (lit< tt)))
 
 -- an index that is within already

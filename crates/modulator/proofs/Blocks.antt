@@ -13,9 +13,9 @@ use lib.Seq.{take-all, take-at}
 use lib.Ieee.{Float}
 use borrow.Author.Tests.{lt-ltb, le-ltb, eqb-true, eqb-false, not-false}
 use Rattle.dsp_types.specs.declared.ComplexSample.{ComplexSample}
-use Rattle.dsp_types.specs.Ints.{sum, same}
+use Rattle.dsp_types.proofs.IntLaws.{sum, same}
 use Rattle.dsp_types.specs.Refusals.{lastCounter, outOfCount, counters}
-use Rattle.dsp_types.specs.Ring.{le-or-lt}
+use Rattle.dsp_types.proofs.RingLaws.{le-or-lt}
 use Rattle.dsp_types.specs.Samples.{silence, ago}
 use Rattle.fir.specs.Fir.{filterOf, lineAfter, outsOf, samplesOf, blockOf, startWith, reOf, imOf}
 use Rattle.fir.proofs.Laws.{line-append, outs-append, length-outs, start-part}

@@ -9,7 +9,7 @@ use lib.IntN.{ℤ, pos, negsuc}
 use lib.ListN.{getD, length}
 use lib.Signed.{mag, ltZ}
 use borrow.Author.Tests.{ltb-false, lt-ltb, le-ltb, eq-eqb, ne-eqb, eqb-true}
-use Rattle.dsp_types.specs.Ints.{less, same}
+use Rattle.dsp_types.proofs.IntLaws.{less, same}
 use Rattle.dsp_types.specs.Refusals.{lastCounter, outOfCount, wrongLength, notBits}
 use Rattle.modulator.specs.declared.due.Due.{Due}
 use Rattle.modulator.specs.declared.due.Due.the-variants.{Refused, Silence, Symbol}

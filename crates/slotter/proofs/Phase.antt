@@ -10,7 +10,8 @@ use lib.Dec.{lit≤}
 use lib.Seq.{drop-cons}
 use mir.Syntax.{w32}
 use mir.Val.{SFits}
-use Rattle.dsp_types.specs.Ints.{up, dn, sum}
+use Rattle.dsp_types.specs.Ints.{up, dn}
+use Rattle.dsp_types.proofs.IntLaws.{sum}
 use Rattle.dsp_types.specs.Phases.{phaseOf}
 use Rattle.slotter.specs.Phases.{phaseSum}
 

@@ -9,7 +9,7 @@ use lib.Dec.{ltb, lit<, lit≤}
 use lib.ListN.{length, length-append}
 use borrow.Author.Tests.{lt-ltb, le-ltb}
 use mathlib.Core.Logic.{⊎-elim}
-use Rattle.dsp_types.specs.Ring.{le-or-lt}
+use Rattle.dsp_types.proofs.RingLaws.{le-or-lt}
 use Rattle.io.specs.Digits.{digits, glyph, Fewest}
 use Rattle.text.specs.Text.{digit, decimal}
 

@@ -7,7 +7,7 @@ use native.Mathlib.Omega.{arith}
 use native.Mathlib.Numerals.{add-one}
 use lib.ListN.{getD, length, set, take, length-take, length-map, List·getD-map}
 use lib.Seq.{paste, take-paste, take-all, take-suc, take-suc-set, take-take, take-append-le, take-append-add, length-take-le}
-use Rattle.dsp_types.specs.Ring.{le-or-lt}
+use Rattle.dsp_types.proofs.RingLaws.{le-or-lt}
 use Rattle.text.specs.declared.Text.{Text}
 use Rattle.text.specs.Text.{textOf, cut, characterOf}
 

@@ -4,7 +4,8 @@ use Prim.Native.Nat.{_+_, _≤_, _^_}
 use lib.Dec.{lit≤}
 use lib.IntN.{_-ℤ_}
 use lib.Signed.{mag}
-use Rattle.dsp_types.specs.Ints.{up, dn, ltZ-false}
+use Rattle.dsp_types.specs.Ints.{up, dn}
+use Rattle.dsp_types.proofs.IntLaws.{ltZ-false}
 use Rattle.demodulator.proofs.Signed.{read, wider, counter-within}
 use Rattle.demodulator.proofs.Samples.{missing-few, missing-many}
 use borrow.Author.Needs.{needs}

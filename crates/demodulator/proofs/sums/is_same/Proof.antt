@@ -7,7 +7,8 @@ use borrow.Author.Tests.{eqb-true, eqb-false}
 use mir.Syntax.{w64}
 use mir.Val.{SFits, ofZ, toZ}
 use mir.ValLaws.{toZ-ofZ}
-use Rattle.dsp_types.specs.Ints.{eqZ, eqZ-yes, eqZ-no, parts, same}
+use Rattle.dsp_types.specs.Ints.{eqZ}
+use Rattle.dsp_types.proofs.IntLaws.{eqZ-yes, eqZ-no, parts, same}
 use borrow.Author.Needs.{needs}
 use Rattle.demodulator.proofs.sums.is_same.Statement.{statement}
 use Rattle.demodulator.proofs.sums.is_same.Tie as tie

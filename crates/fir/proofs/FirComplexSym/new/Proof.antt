@@ -5,7 +5,7 @@ use lib.ListN.{getD-replicate}
 use lib.Ieee.{nan}
 use Rattle.dsp_types.specs.Samples.{zeroF, silence}
 use Rattle.fir.specs.Fir.{lineOf, inRow}
-use Rattle.dsp_types.specs.Ring.{newest-same}
+use Rattle.dsp_types.proofs.RingLaws.{newest-same}
 use Rattle.fir.proofs.FirComplexSym.new.Statement.{statement}
 use Rattle.fir.proofs.FirComplexSym.new.Tie as tie
 
