@@ -49,13 +49,13 @@ padded-over (suc n) (b ∷ bits) (o ∷ others) h e = ap (λ (l : List ℕ). o �
 
 -- ---- rows
 
-pub length-row : (a : Reply RxSlot) → length (rowOf a) ≡ 14
+pub length-row : (a : Reply RxSlot) → length (rowOf a) ≡ 15
 unfolding rowOf viewRow
 length-row (refused n) = refl
 length-row done = refl
 length-row (took s) = refl
 
-pub length-rows : (replies : List (Reply HandedSlot)) → length (rows replies) ≡ 14 * length replies
+pub length-rows : (replies : List (Reply HandedSlot)) → length (rows replies) ≡ 15 * length replies
 unfolding rows
 length-rows [] = refl
 length-rows (a ∷ earlier) = rw (length-append (rows earlier) (rowOf (inNumbers a))) (omega (arith, length-rows earlier, length-row (inNumbers a)))
@@ -97,7 +97,8 @@ same-slot s t e =
     let f : s .full ≡ t .full = same-view (s .full) (t .full) (cc) in
     let a : s .subslot1 ≡ t .subslot1 = same-view (s .subslot1) (t .subslot1) (cc) in
     let b : s .subslot2 ≡ t .subslot2 = same-view (s .subslot2) (t .subslot2) (cc) in
-    λ i. record { time = record { 0 = n i }; full = f i; subslot1 = a i; subslot2 = b i }
+    let m : s .misses ≡ t .misses = cc in
+    λ i. record { time = record { 0 = n i }; full = f i; subslot1 = a i; subslot2 = b i; misses = m i }
 
 apart : {m n : ℕ} {xs ys : List ℕ} {A : Type 0} → (m ≡ n → ⊥) → _≡_ {A = List ℕ} (m ∷ xs) (n ∷ ys) → A
 apart h e = absurd (h (cc))

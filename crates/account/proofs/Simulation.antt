@@ -91,13 +91,13 @@ pub record Waits (b : Bool) (h : HandedSlot) (v : Waiting) : Type 0 where
   pub whole : Whole h
 
 module _ (h : HandedSlot) (w : Whole h) where
-  emptied-is : (n : ℕ) → R.emptied h n ≡ slotWith n noView
+  emptied-is : (n : ℕ) → R.emptied h n ≡ slotWith n noView (h .misses)
   unfolding R.emptied slotWith
-  emptied-is n = λ i. record { time = n; full = noView; subslot1 = w .subslot1 i; subslot2 = w .subslot2 i }
+  emptied-is n = λ i. record { time = n; full = noView; subslot1 = w .subslot1 i; subslot2 = w .subslot2 i; misses = h .misses }
 
-  handed-is : (k n : ℕ) (bits : List ℕ) → k ≡ n → R.downlinkSlot h k (checked SlotType.Dl bits) ≡ slotIn n bits
+  handed-is : (k n : ℕ) (bits : List ℕ) {j m : ℕ} → k ≡ n → j ≡ m → R.downlinkSlot h k (checked SlotType.Dl bits) j ≡ slotIn n bits m
   unfolding R.downlinkSlot slotIn slotWith
-  handed-is k n bits e = λ i. record { time = e i; full = checked SlotType.Dl bits; subslot1 = w .subslot1 i; subslot2 = w .subslot2 i }
+  handed-is k n bits e f = λ i. record { time = e i; full = checked SlotType.Dl bits; subslot1 = w .subslot1 i; subslot2 = w .subslot2 i; misses = f i }
 
 module _ (b : Bool) (h : HandedSlot) where
   emptied-quiet : (v : Waiting) → Waits b h v → Waits b (R.emptied h (h .time)) (changed quiet v)
@@ -105,7 +105,7 @@ module _ (b : Bool) (h : HandedSlot) where
   emptied-quiet nothing w = record { stands = w .stands; whole = record { subslot1 = w .whole .subslot1; subslot2 = w .whole .subslot2 } }
   emptied-quiet (waits v) w =
       record {
-        stands = (w .stands .0, emptied-is h (w .whole) (h .time) ∙ ap (λ (g : HandedSlot). slotWith (g .time) noView) (w .stands .1));
+        stands = (w .stands .0, emptied-is h (w .whole) (h .time) ∙ ap (λ (g : HandedSlot). slotWith (g .time) noView (g .misses)) (w .stands .1));
         whole = record { subslot1 = w .whole .subslot1; subslot2 = w .whole .subslot2 };
       }
 
@@ -114,14 +114,15 @@ module _ (b : Bool) (h : HandedSlot) where
   emptied-lock nothing w = record { stands = w .stands; whole = record { subslot1 = w .whole .subslot1; subslot2 = w .whole .subslot2 } }
   emptied-lock (waits v) w =
       record {
-        stands = (w .stands .0, emptied-is h (w .whole) 0);
+        stands = (w .stands .0, emptied-is h (w .whole) 0 ∙ ap (λ (g : HandedSlot). slotWith 0 noView (g .misses)) (w .stands .1));
         whole = record { subslot1 = w .whole .subslot1; subslot2 = w .whole .subslot2 };
       }
 
-  handed-waits : (k n : ℕ) (bits : List ℕ) (v : Waiting) → k ≡ n → Waits b h v → Waits true (R.downlinkSlot h k (checked SlotType.Dl bits)) (changed (slot (slotIn n bits)) v)
+  handed-waits : (k n : ℕ) (bits : List ℕ) {j m : ℕ} (v : Waiting) → k ≡ n → j ≡ m → Waits b h v
+      → Waits true (R.downlinkSlot h k (checked SlotType.Dl bits) j) (changed (slot (slotIn n bits m)) v)
   unfolding R.downlinkSlot changed
-  handed-waits k n bits v e w =
-      record { stands = (refl, handed-is h (w .whole) k n bits e); whole = record { subslot1 = w .whole .subslot1; subslot2 = w .whole .subslot2 } }
+  handed-waits k n bits v e f w =
+      record { stands = (refl, handed-is h (w .whole) k n bits e f); whole = record { subslot1 = w .whole .subslot1; subslot2 = w .whole .subslot2 } }
 
 -- a sample with the counter n takes r to r′, closing the windows w
 pub record Stepped (r r′ : Receiver) (w : List Window) (n : ℕ) (s : Signal) (t t′ : Tracked) : Type 0 where
@@ -226,7 +227,7 @@ module _ (r : Receiver) where
 
   unfoldable handed-over : Mode → Receiver
   handed-over m =
-      R.handOver (withMode (withLock r (lockOn type)) m) (R.downlinkSlot (r .slot) (r .clock .currentSlot) (checked SlotType.Dl (windowBits (r .signal))))
+      R.handOver (withMode (withLock r (lockOn type)) m) (R.downlinkSlot (r .slot) (r .clock .currentSlot) (checked SlotType.Dl (windowBits (r .signal))) (r .lock .misses))
 
   lock-is : (k : ℕ) → R.lockAfter (r .lock) (slotTiming (r .signal)) k ≡ lockOn k
   unfolding R.lockAfter errorAfter nextMisses
@@ -420,14 +421,15 @@ module _ (r : Receiver) (x : ComplexSample) (n : ℕ) (t : Tracked) where
       let r′ : Receiver = advanced (handed-over (listen r x) Dl) in
       let g = gap-span error in
       let ge = ap (λ (y : Lock). slotGap (errorAfter type (y .timingError) (slotTiming s′))) (l .lock) in
-      let me = ap (λ (y : Lock). nextMisses type (y .misses)) (l .lock) in
+      let mm = ap (λ (y : Lock). y .misses) (l .lock) in
+      let me = ap (nextMisses type) mm in
       let w : slotOf (pos (r .clock .currentSlot) +ℤ pos 1) ≡ suc k = rw (s .current) (next-slot k (omega (arith, s))) in
       let nn : suc k % slots ≡ suc k = mod-eq-of-lt (omega (arith, s)) in
       let y = slot-ready (shifted error (r .clock .referenceTime)) (suc k) in
       let b = shifted-parts error (r .clock .referenceTime) in
       let ready : ℤ = setSlot Dl (shifted error (r .clock .referenceTime)) (suc k) .slotReadyTime in
       let a : dn ready ≡ 0 = above-zero ready (omega (arith, y, b, s, g)) in
-      assemble (q .0 ∙ c) (one-window (q .1) (kind-slot (r .mode) (closeWindow (listen r x)) r′ (slotIn k (windowBits s′)) (l .mode) c (handed-is (r .slot) u (r .clock .currentSlot) k (windowBits s′) (s .current))))
+      assemble (q .0 ∙ c) (one-window (q .1) (kind-slot (r .mode) (closeWindow (listen r x)) r′ (slotIn k (windowBits s′) (t .account .misses)) (l .mode) c (handed-is (r .slot) u (r .clock .currentSlot) k (windowBits s′) (s .current) mm)))
       (turn-slot t n s′ true e (l .locked) (lt-ltb (nextMisses type (t .account .misses)) 100 (omega (arith, leb-false 100 (nextMisses type (r .lock .misses)) f, me))))
       (record {
         timed = steady (record { mode = refl; locked = refl; lock = ap (λ (y : Lock). record { timingError = settledOf (errorAfter type (y .timingError) (slotTiming s′)); misses = nextMisses type (y .misses) }) (l .lock) })
@@ -443,7 +445,7 @@ module _ (r : Receiver) (x : ComplexSample) (n : ℕ) (t : Tracked) where
             }));
         signal = refl;
         windows = refl;
-        waiting = λ v h. handed-waits (r .waits) (r .slot) (r .clock .currentSlot) k (windowBits s′) v (s .current) h;
+        waiting = λ v h. handed-waits (r .waits) (r .slot) (r .clock .currentSlot) k (windowBits s′) v (s .current) mm h;
       })
 
   -- the hundredth miss
@@ -457,15 +459,16 @@ module _ (r : Receiver) (x : ComplexSample) (n : ℕ) (t : Tracked) where
       let q = shuts r x n (near n z (omega (arith, s)) (omega (arith, s))) (closes-yes n z (omega (arith, s))) in
       let c = close-loses (listen r x) (l .mode) f in
       let r′ : Receiver = withClock (handed-over (listen r x) DlUnsynchronized) (R.searchOn (r .clock)) in
-      let me = ap (λ (y : Lock). nextMisses type (y .misses)) (l .lock) in
+      let mm = ap (λ (y : Lock). y .misses) (l .lock) in
+      let me = ap (nextMisses type) mm in
       let a : dn (z +ℤ pos 400) ≡ 0 = above-zero (z +ℤ pos 400) (omega (arith, sum z (pos 400), s)) in
-      assemble (q .0 ∙ c) (one-window (q .1) (kind-slot (r .mode) (closeWindow (listen r x)) r′ (slotIn (t .account .number) (windowBits s′)) (l .mode) c (handed-is (r .slot) u (r .clock .currentSlot) (t .account .number) (windowBits s′) (s .current))))
+      assemble (q .0 ∙ c) (one-window (q .1) (kind-slot (r .mode) (closeWindow (listen r x)) r′ (slotIn (t .account .number) (windowBits s′) (t .account .misses)) (l .mode) c (handed-is (r .slot) u (r .clock .currentSlot) (t .account .number) (windowBits s′) (s .current) mm)))
       (turn-slot t n s′ false e (l .locked) (le-ltb (nextMisses type (t .account .misses)) 100 (omega (arith, leb-true 100 (nextMisses type (r .lock .misses)) f, me))))
       (record {
         timed = searching (record { mode = refl; unlocked = refl; above-zero = a; due = omega (arith, sum z (pos 400), s, a); least = omega arith; most = omega arith; begun = omega (arith, s) });
         signal = refl;
         windows = refl;
-        waiting = λ v h. handed-waits (r .waits) (r .slot) (r .clock .currentSlot) (t .account .number) (windowBits s′) v (s .current) h;
+        waiting = λ v h. handed-waits (r .waits) (r .slot) (r .clock .currentSlot) (t .account .number) (windowBits s′) v (s .current) mm h;
       })
 
   -- all together

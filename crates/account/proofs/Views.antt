@@ -107,7 +107,7 @@ pub valid-slot : (h : HandedSlot) → h .time < slots → Views h → validSlot 
 unfolding validSlot
 valid-slot h few v =
     let n : h .time % slots ≡ h .time = mod-eq-of-lt few in
-    λ i. record { time = n i; full = v .full i; subslot1 = v .subslot1 i; subslot2 = v .subslot2 i }
+    λ i. record { time = n i; full = v .full i; subslot1 = v .subslot1 i; subslot2 = v .subslot2 i; misses = h .misses }
 
 -- a slot's number as it is read is in range, whatever is stored
 pub valid-number : (h : HandedSlot) → validSlot h .time < slots

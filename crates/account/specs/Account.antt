@@ -134,9 +134,9 @@ pub data Waiting : Type 0 where
 -- keeps its number unless such a window finds, which makes it 0."
 unfoldable pub changed : Kind → Waiting → Waiting
 changed quiet nothing = nothing
-changed quiet (waits h) = waits (slotWith (h .time) noView)
+changed quiet (waits h) = waits (slotWith (h .time) noView (h .misses))
 changed lock nothing = nothing
-changed lock (waits h) = waits (slotWith 0 noView)
+changed lock (waits h) = waits (slotWith 0 noView (h .misses))
 changed (slot h) w = waits h
 
 -- the last handed slot, changed by the search windows closed after it

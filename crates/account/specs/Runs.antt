@@ -43,22 +43,22 @@ callsIn other kinds re im counters slot subslot1 subslot2 room =
     callsOf other kinds re im counters slot subslot1 subslot2
     (min room (fewest (length kinds) (length re) (length im) (length counters) (length slot) (length subslot1) (length subslot2)))
 
--- ════ what is written of each: 14 numbers, and 3,072 lent bytes
+-- ════ what is written of each: 15 numbers, and 3,072 lent bytes
 
 -- how many calls there is room for in so many numbers and so many bytes
 unfoldable pub roomIn : (told lent : ℕ) → ℕ
-roomIn told lent = min (told / 14) (lent / 3072)
+roomIn told lent = min (told / 15) (lent / 3072)
 
 -- a view in numbers
 unfoldable pub viewRow : RxBurst → List ℕ
 viewRow v = v .«train_type» ∷ v .«train_errs» ∷ v .«burst_pos» ∷ v .«burst_len» ∷ []
 
--- an answer: 0 and a refusal's number; 1; or 2, the slot's number and its three views. `row-tells` of proofs/Rows.antt: no two answers
+-- an answer: 0 and a refusal's number; 1; or 2, the slot's number, its three views and its misses. `row-tells` of proofs/Rows.antt: no two answers
 -- have one row
 unfoldable pub rowOf : Reply RxSlot → List ℕ
-rowOf (refused n) = 0 ∷ n ∷ replicate 12 0
-rowOf done = 1 ∷ 0 ∷ replicate 12 0
-rowOf (took s) = 2 ∷ s .time .0 ∷ (viewRow (s .full) ++ (viewRow (s .subslot1) ++ viewRow (s .subslot2)))
+rowOf (refused n) = 0 ∷ n ∷ replicate 13 0
+rowOf done = 1 ∷ 0 ∷ replicate 13 0
+rowOf (took s) = 2 ∷ s .time .0 ∷ (viewRow (s .full) ++ (viewRow (s .subslot1) ++ (viewRow (s .subslot2) ++ s .misses ∷ [])))
 
 -- the rows of answers, in the order of their calls
 unfoldable pub rows : List (Reply HandedSlot) → List ℕ
@@ -84,12 +84,12 @@ pub record Makes (r : Receiver) (c : Call) (r′ : Receiver) (told lent : List �
 -- lent were written, and what is behind them stayed
 pub record Written (cs : List Call) (r : Receiver) (told told′ lent lent′ : List ℕ) : Type 0 where
   pub receiver : r ≡ after cs
-  pub tells : told′ ≡ rows (answers cs) ++ drop (14 * length cs) told
+  pub tells : told′ ≡ rows (answers cs) ++ drop (15 * length cs) told
   pub lends : lent′ ≡ bytesOfAll (lentAfter cs) ++ drop (3072 * length cs) lent
 
 -- .. and where their accepted samples count 0, 1, 2 and on, what was written is what the account tells, and demand 3 holds throughout
 pub record Ran (cs : List Call) (r : Receiver) (told told′ lent lent′ : List ℕ) : Type 0 where
   pub written : Written cs r told told′ lent lent′
-  pub expected : Counted cs → told′ ≡ rows (expectedAll cs) ++ drop (14 * length cs) told
+  pub expected : Counted cs → told′ ≡ rows (expectedAll cs) ++ drop (15 * length cs) told
   pub filled : Counted cs → lent′ ≡ bytesOfAll (expectedLent cs) ++ drop (3072 * length cs) lent
   pub keeps : Counted cs → Throughout cs

@@ -30,7 +30,7 @@ fn take(
     slot: usize,
     subslot1: usize,
     subslot2: usize,
-    told: &mut [u64; 14],
+    told: &mut [u64; 15],
     lent: &mut [u8; 3072],
 ) -> Demodulator
     ensures { λ r. ⌜ Makes (viewOf receiver) (take (lentBytes slot) (lentBytes subslot1) (lentBytes subslot2)) (viewOf r) (now (told .exit)) (now (lent .exit)) ⌝ }
@@ -56,7 +56,7 @@ pub(crate) fn one_call(
     counter: i64,
     lengths: [usize; 3],
     other: Demodulator,
-    told: &mut [u64; 14],
+    told: &mut [u64; 15],
     lent: &mut [u8; 3072],
 ) -> Demodulator
     ensures { λ r. ⌜ Makes (viewOf receiver) (callOf (viewOf other) kind input counter (getD lengths 0 0) (getD lengths 1 0) (getD lengths 2 0)) (viewOf r) (now (told .exit)) (now (lent .exit)) ⌝ }

@@ -36,11 +36,11 @@ fn fewest(
 fn room(told: usize, lent: usize) -> usize
     ensures { λ r. ⌜ r ≡ roomIn told lent ⌝ }
 {
-    least(told / 14, lent / 3072)
+    least(told / 15, lent / 3072)
 }
 
 // Makes calls in order on a new searching downlink receiver, as many as the shortest slice has and there is room for. Of each
-// it writes what it answered, 14 numbers, and the bytes lent to it, 1,024 for each of three slices.
+// it writes what it answered, 15 numbers, and the bytes lent to it, 1,024 for each of three slices.
 pub fn run_calls(
     kinds: &[u8],
     re: &[f32],
@@ -72,7 +72,7 @@ pub fn run_calls(
             im: im[i],
         };
         let lengths = [slot[i], subslot1[i], subslot2[i]];
-        let mut row = [0; 14];
+        let mut row = [0; 15];
         let mut bytes = [0; 3072];
         receiver = one_call(
             receiver,
@@ -84,7 +84,7 @@ pub fn run_calls(
             &mut row,
             &mut bytes,
         );
-        write_numbers(&row, told, 14 * i);
+        write_numbers(&row, told, 15 * i);
         write_bytes(&bytes, lent, 3072 * i);
     }
     receiver

@@ -21,16 +21,16 @@ pub(crate) fn sevens(n: usize) -> [u8; 1024]
     bytes
 }
 
-pub(crate) fn answer_row(answer: Answer) -> [u64; 14]
+pub(crate) fn answer_row(answer: Answer) -> [u64; 15]
     ensures { λ r. ⌜ r ≡ rowOf (inNumbers (replyOf answer)) ⌝ }
 {
     match answer {
-        Answer::Accepted => [1, 0, 0, 0, 0, 0, 0, 0, 0, 0, 0, 0, 0, 0],
-        Answer::Refused(n) => [0, n as u64, 0, 0, 0, 0, 0, 0, 0, 0, 0, 0, 0, 0],
+        Answer::Accepted => [1, 0, 0, 0, 0, 0, 0, 0, 0, 0, 0, 0, 0, 0, 0],
+        Answer::Refused(n) => [0, n as u64, 0, 0, 0, 0, 0, 0, 0, 0, 0, 0, 0, 0, 0],
     }
 }
 
-fn slot_row(slot: RxSlot) -> [u64; 14]
+fn slot_row(slot: RxSlot) -> [u64; 15]
     ensures { λ r. ⌜ r ≡ rowOf (took slot) ⌝ }
 {
     [
@@ -48,15 +48,16 @@ fn slot_row(slot: RxSlot) -> [u64; 14]
         slot.subslot2.train_errs as u64,
         slot.subslot2.burst_pos as u64,
         slot.subslot2.burst_len as u64,
+        slot.misses as u64,
     ]
 }
 
-pub(crate) fn take_row(answer: TakeAnswer) -> [u64; 14]
+pub(crate) fn take_row(answer: TakeAnswer) -> [u64; 15]
     ensures { λ r. ⌜ r ≡ rowOf (takeReplyOf answer) ⌝ }
 {
     match answer {
         TakeAnswer::Slot(slot) => slot_row(slot),
-        TakeAnswer::Refused(n) => [0, n as u64, 0, 0, 0, 0, 0, 0, 0, 0, 0, 0, 0, 0],
+        TakeAnswer::Refused(n) => [0, n as u64, 0, 0, 0, 0, 0, 0, 0, 0, 0, 0, 0, 0, 0],
     }
 }
 

@@ -118,7 +118,7 @@ stored-front n bits b h =
 module _ (h : HandedSlot) where
   pub slot-told : (time : ℕ) (full first second : RxBurst) → time ≡ h .time % slots → full ≡ burstShown (validView (h .full))
       → first ≡ burstShown (validView (h .subslot1)) → second ≡ burstShown (validView (h .subslot2))
-      → record { time = record { 0 = time }; full = full; subslot1 = first; subslot2 = second } ≡ shown (validSlot h)
+      → record { time = record { 0 = time }; full = full; subslot1 = first; subslot2 = second; misses = h .misses } ≡ shown (validSlot h)
   unfolding shown validSlot
   slot-told time full first second t a b c = rw (t, a, b, c)
 

@@ -119,7 +119,7 @@ unfoldable pub burstShown : BurstView → RxBurst
 burstShown v = record { «train_type» = v .type; «train_errs» = v .errors; «burst_pos» = v .place; «burst_len» = length (v .bits) }
 
 unfoldable pub shown : HandedSlot → RxSlot
-shown h = record { time = record { 0 = h .time }; full = burstShown (h .full); subslot1 = burstShown (h .subslot1); subslot2 = burstShown (h .subslot2) }
+shown h = record { time = record { 0 = h .time }; full = burstShown (h .full); subslot1 = burstShown (h .subslot1); subslot2 = burstShown (h .subslot2); misses = h .misses }
 
 unfoldable pub takeReplyOf : TakeAnswer → Reply RxSlot
 takeReplyOf (TakeAnswer.Slot s) = took s

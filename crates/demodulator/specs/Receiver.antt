@@ -42,6 +42,8 @@ pub record HandedSlot : Type 0 where
   pub full : BurstView
   pub subslot1 : BurstView
   pub subslot2 : BurstView
+  -- slots in a row without a training sequence before this one
+  pub misses : ℕ
 
 -- how good the lock is: the averaged timing error, and handed slots in a row without a training sequence
 pub record Lock : Type 0 where
@@ -123,7 +125,7 @@ checked k bits = viewOn bits (checkSlot k bits)
 -- ---- a new receiver
 
 unfoldable pub noSlot : HandedSlot
-noSlot = record { time = 0; full = noView; subslot1 = noView; subslot2 = noView }
+noSlot = record { time = 0; full = noView; subslot1 = noView; subslot2 = noView; misses = 0 }
 
 unfoldable pub new : Mode → Receiver
 new m =
@@ -141,7 +143,7 @@ new m =
 
 -- a search window empties the view of the full slot, also of one that waits
 unfoldable pub emptied : HandedSlot → ℕ → HandedSlot
-emptied h time = record { time = time; full = noView; subslot1 = h .subslot1; subslot2 = h .subslot2 }
+emptied h time = record { time = time; full = noView; subslot1 = h .subslot1; subslot2 = h .subslot2; misses = h .misses }
 
 -- the reference time at a find with the sequence's first bit at 216 + place: one slot before the burst found began, by the source's
 -- own comment "so that this burst will get demodulated in slot number 0". The catch-up skips that slot: 01 has the burst as slot 1
@@ -178,11 +180,11 @@ lockAfter l timing (suc type) = record { timingError = averagedOf (l .timingErro
 unfoldable pub modeAfter : ℕ → Mode
 modeAfter misses = cond (leb 100 misses) DlUnsynchronized Dl
 
-unfoldable pub downlinkSlot : HandedSlot → ℕ → BurstView → HandedSlot
-downlinkSlot h time v = record { time = time; full = v; subslot1 = h .subslot1; subslot2 = h .subslot2 }
+unfoldable pub downlinkSlot : HandedSlot → ℕ → BurstView → ℕ → HandedSlot
+downlinkSlot h time v misses = record { time = time; full = v; subslot1 = h .subslot1; subslot2 = h .subslot2; misses = misses }
 
 unfoldable pub downlinkWindow : BurstView → Lock → Receiver → Receiver
-downlinkWindow v l r = handOver (withMode (withLock r l) (modeAfter (l .misses))) (downlinkSlot (r .slot) (r .clock .currentSlot) v)
+downlinkWindow v l r = handOver (withMode (withLock r l) (modeAfter (l .misses))) (downlinkSlot (r .slot) (r .clock .currentSlot) v (r .lock .misses))
 
 -- Ul: slot numbers are 2 less, wrapping; a full window and one for each half
 unfoldable pub uplinkSlot : ℕ → Signal → HandedSlot
@@ -192,6 +194,7 @@ uplinkSlot current s =
       full = checked SlotType.UlFull (windowBits s);
       subslot1 = checked SlotType.UlSub (bitsOf s 1024 128);
       subslot2 = checked SlotType.UlSub (bitsOf s 514 128);
+      misses = 0;
     }
 
 unfoldable pub processPastSamples : Mode → Receiver → Receiver

@@ -58,4 +58,4 @@ unfoldable pub validView : BurstView → BurstView
 validView v = cond (isFound v) (record { type = v .type; errors = v .errors; place = v .place; bits = map (λ b. b % 2) (v .bits) }) noView
 
 unfoldable pub validSlot : HandedSlot → HandedSlot
-validSlot h = record { time = h .time % slots; full = validView (h .full); subslot1 = validView (h .subslot1); subslot2 = validView (h .subslot2) }
+validSlot h = record { time = h .time % slots; full = validView (h .full); subslot1 = validView (h .subslot1); subslot2 = validView (h .subslot2); misses = h .misses }

@@ -120,6 +120,7 @@ impl State {
             full,
             subslot1: first,
             subslot2: second,
+            misses: last.misses,
         };
         let mut state = self;
         state.demodulated_slot_available = false;

@@ -110,6 +110,7 @@ impl State {
             full,
             subslot1: first,
             subslot2: second,
+            misses: last.misses,
         };
         let mut d = self;
         d.demodulated_slot = slot;
@@ -165,6 +166,7 @@ impl State {
             full,
             subslot1: first,
             subslot2: second,
+            misses: self.slots_since_last_valid_burst,
         };
         let mut d = self;
         d.demodulated_slot = slot;
@@ -207,6 +209,7 @@ impl State {
             full,
             subslot1: first,
             subslot2: second,
+            misses: 0,
         };
         let mut d = self;
         d.demodulated_slot = slot;

@@ -91,6 +91,7 @@ fn no_slot() -> RxSlot
         full: none,
         subslot1: none,
         subslot2: none,
+        misses: 0,
     }
 }
 
