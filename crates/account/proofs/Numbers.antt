@@ -104,7 +104,7 @@ same-slot : {g h : HandedSlot} → slot g ≡ slot h → g ≡ h
 same-slot e = cc
 
 search-read : (b : Bool) (place : ℕ) (r : Receiver) → r .clock .currentSlot < slots → Read DlUnsynchronized r (R.searchWindow b place r)
-unfolding kindOf R.searchWindow R.found R.notFoundYet R.emptied R.setSlot withMode withClock withLock withSlot
+unfolding kindOf R.searchWindow R.found R.notFoundYet R.withViews R.emptied R.setSlot withMode withClock withLock withSlot
 search-read true place r few =
     record {
       current = slot-below (negsuc 0);
@@ -124,7 +124,7 @@ number-of : (g h : HandedSlot) → g ≡ h → g .time < slots → h .time < slo
 number-of g h e k = rw (← e) k
 
 read : (m : Mode) (r : Receiver) → r .clock .currentSlot < slots → Read m r (R.processPastSamples m r)
-unfolding kindOf R.processPastSamples R.downlinkWindow R.downlinkSlot R.uplinkSlot R.handOver withMode withLock withWaits withSlot
+unfolding kindOf R.processPastSamples R.downlinkWindow R.downlinkSlot R.uplinkViews R.uplinkSlot R.handOver withMode withLock withWaits withSlot
 read Idle r few =
     record { current = few; handed = λ a h e k. absurd (let z : _≡_ {A = ℕ} 0 1 = cc in omega arith); time = λ h. h; views = λ v. v }
 read DlUnsynchronized r few = search-read _ _ r few

@@ -24,7 +24,7 @@ use Rattle.demodulator.specs.declared.State.{State}
 use Rattle.demodulator.specs.declared.Demodulator.{Demodulator}
 use Rattle.demodulator.specs.declared.window.Window.{Window}
 use Rattle.demodulator.specs.Signal.{timingOf, bitsOf, slotTiming, windowBits}
-use Rattle.demodulator.specs.Receiver.{Lock, BurstView, Receiver, withMode, withClock, withLock, withSlot, setSlot, checked, emptied, found, notFoundYet, searchWindow, handOver, lockAfter, modeAfter, downlinkSlot, downlinkWindow, uplinkSlot, processPastSamples, moved, later, sooner, trackedLater, trackedSooner, searchOn, schedule}
+use Rattle.demodulator.specs.Receiver.{Lock, BurstView, Receiver, withMode, withClock, withLock, withSlot, setSlot, checked, emptied, found, notFoundYet, searchWindow, handOver, lockAfter, modeAfter, downlinkSlot, downlinkWindow, uplinkViews, uplinkSlot, processPastSamples, moved, later, sooner, trackedLater, trackedSooner, searchOn, schedule}
 use Rattle.demodulator.specs.View.{modeOf, modeNumber, signalFrom, receiverOf, Untouched, Reads}
 use Rattle.demodulator.proofs.Times.{found-reference, sync-placed}
 
@@ -102,7 +102,7 @@ module _ (r : Receiver) (w : Window) (read : Reads (r .signal) 1024 256 w) (b : 
 
 pub handed-over : (r : Receiver) (w : Window) (v : BurstView) (type : ℕ) → Reads (r .signal) 1024 256 w → v ≡ checked SlotType.Dl (take 510 (w .bits))
     → type ≡ checked SlotType.Dl (take 510 (w .bits)) .type → (m : Mode) (l : Lock) → l ≡ lockAfter (r .lock) (w .timing) type → m ≡ modeAfter (l .misses)
-    → handOver (withMode (withLock r l) m) (downlinkSlot (r .slot) (r .clock .currentSlot) v (r .lock .misses)) ≡ processPastSamples Dl r
+    → handOver (withMode (withLock r l) m) (downlinkSlot r v) ≡ processPastSamples Dl r
 unfolding processPastSamples downlinkWindow slotTiming
 handed-over r w v type read f g m l p q = rw (q, p, g, f, read .bits, read .timing)
 
@@ -120,7 +120,7 @@ miss l timing type e = rw (e, add-one (l .misses))
 pub uplinked : (r : Receiver) (w w1 w2 : Window) (v v1 v2 : BurstView) (time : ℕ) → Reads (r .signal) 1024 256 w → Reads (r .signal) 1024 128 w1
     → Reads (r .signal) 514 128 w2 → v ≡ checked SlotType.UlFull (take 510 (w .bits)) → v1 ≡ checked SlotType.UlSub (take 254 (w1 .bits))
     → v2 ≡ checked SlotType.UlSub (take 254 (w2 .bits)) → time ≡ slotOf (pos (r .clock .currentSlot) -ℤ pos 2)
-    → handOver r (record { time = time; full = v; subslot1 = v1; subslot2 = v2; misses = 0 }) ≡ processPastSamples Ul r
+    → handOver r (uplinkViews time v v1 v2) ≡ processPastSamples Ul r
 unfolding processPastSamples uplinkSlot
 uplinked r w w1 w2 v v1 v2 time read read1 read2 g g1 g2 t = rw (t, g, g1, g2, read .bits, read1 .bits, read2 .bits)
 

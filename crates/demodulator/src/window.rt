@@ -101,17 +101,10 @@ impl State {
     fn emptied(self, time: TdmaTime) -> State
         ensures { λ r. ⌜ ((re im abs : List Float) → receiverOf r re im abs ≡ withSlot (receiverOf self re im abs) (emptied (receiverOf self re im abs .slot) (time .0))) ⌝ }
     {
-        let last = self.demodulated_slot;
         let full = no_burst();
-        let first = last.subslot1;
-        let second = last.subslot2;
-        let slot = RxSlot {
-            time,
-            full,
-            subslot1: first,
-            subslot2: second,
-            misses: last.misses,
-        };
+        let mut slot = self.demodulated_slot;
+        slot.time = time;
+        slot.full = full;
         let mut d = self;
         d.demodulated_slot = slot;
         d

@@ -11,7 +11,7 @@ use Rattle.demodulator.specs.declared.RxBurst.{RxBurst}
 use Rattle.demodulator.specs.declared.take.TakeAnswer.the-variants as TakeAnswer
 use Rattle.demodulator.specs.Receiver.{BurstView, HandedSlot, withWaits}
 use Rattle.demodulator.specs.Valid.{validView, validSlot}
-use Rattle.demodulator.specs.Calls.{Outcome, took, takeRefusal, padded, taken, takeOutcome, burstShown, takeReplyOf, inNumbers}
+use Rattle.demodulator.specs.Calls.{Outcome, took, takeRefusal, padded, taken, takeOutcome, burstShown, shownAs, takeReplyOf, inNumbers}
 use Rattle.demodulator.specs.View.{storedView, receiverOf}
 use Rattle.demodulator.proofs.Taking.{right-lengths, stored-front, slot-told, slot-filled}
 use Rattle.demodulator.proofs.Outcomes.{kept, unless-refused, unless-accepted}
@@ -133,7 +133,7 @@ same-length-3 : tie.Need-same-length-3
 same-length-3 c = search needs
 
 returns-2 : tie.Need-returns-2
-unfolding takeReplyOf inNumbers taken withWaits receiverOf
+unfolding takeReplyOf inNumbers taken shownAs withWaits receiverOf
 returns-2 c =
     let v2 = c .before .before .before in
     let v1 = v2 .before .before .before .before .before in

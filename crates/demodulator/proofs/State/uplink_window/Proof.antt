@@ -4,7 +4,7 @@ use Prim.Native.Nat.{_%_}
 use native.Mathlib.Nat.{mod-eq-of-lt}
 use lib.IntN.{pos, _-ℤ_}
 use Rattle.dsp_types.specs.Times.{slotOf, slots}
-use Rattle.demodulator.specs.Receiver.{withWaits, withSlot, handOver}
+use Rattle.demodulator.specs.Receiver.{withWaits, withSlot, handOver, uplinkViews}
 use Rattle.demodulator.specs.View.{receiverOf, IsWindow}
 use Rattle.demodulator.proofs.Views.{heard, uplinked}
 use borrow.Author.Needs.{needs}
@@ -47,7 +47,7 @@ add-timeslots-requires : tie.Need-add-timeslots-requires
 add-timeslots-requires c κs = search needs
 
 returns : tie.Need-returns
-unfolding receiverOf handOver withWaits withSlot
+unfolding receiverOf handOver withWaits withSlot uplinkViews
 returns c =
     let third = c .before in
     let second = third .before in
