@@ -8,10 +8,10 @@ use std::io::{self, Read};
 const SEARCHING: u32 = 1;
 const NAMES: [&str; 5] = ["none", "normal1", "normal2", "extended", "sync"];
 
-/// A receiver's state, 1,968 bytes that only the library reads.
+/// A receiver's state, 1,960 bytes that only the library reads.
 #[derive(Clone, Copy)]
 #[repr(C)]
-struct State([u64; 246]);
+struct State([u64; 245]);
 
 #[derive(Clone, Copy)]
 #[repr(C)]
@@ -29,7 +29,6 @@ struct Slot {
     full: Burst,
     subslot1: Burst,
     subslot2: Burst,
-    misses: u32,
 }
 
 #[repr(C)]

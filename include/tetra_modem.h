@@ -59,7 +59,7 @@ extern "C" {
 #define TETRA_ANSWER_BYTES 6u
 #define TETRA_SLOT_BITS 510u
 #define TETRA_HALF_SLOT_BITS 254u
-#define TETRA_STATE_BYTES 1968u
+#define TETRA_STATE_BYTES 1960u
 #define TETRA_PAST 2048u
 
 /* A burst that was found in a window: a view of the window's bits. */
@@ -76,7 +76,6 @@ struct tetra_slot {
     struct tetra_burst full;
     struct tetra_burst subslot1;
     struct tetra_burst subslot2;
-    uint32_t misses; /* slots in a row without a training sequence before this one */
 };
 
 /* The newest 32 samples, oldest first. */

@@ -97,8 +97,7 @@ same-slot s t e =
     let f : s .full ≡ t .full = same-view (s .full) (t .full) (cc) in
     let a : s .subslot1 ≡ t .subslot1 = same-view (s .subslot1) (t .subslot1) (cc) in
     let b : s .subslot2 ≡ t .subslot2 = same-view (s .subslot2) (t .subslot2) (cc) in
-    let m : s .misses ≡ t .misses = cc in
-    λ i. record { time = record { 0 = n i }; full = f i; subslot1 = a i; subslot2 = b i; misses = m i }
+    λ i. record { time = record { 0 = n i }; full = f i; subslot1 = a i; subslot2 = b i }
 
 apart : {m n : ℕ} {xs ys : List ℕ} {A : Type 0} → (m ≡ n → ⊥) → _≡_ {A = List ℕ} (m ∷ xs) (n ∷ ys) → A
 apart h e = absurd (h (cc))

@@ -95,19 +95,18 @@ module _ (h : HandedSlot) (w : Whole h) where
   unfolding R.emptied
   emptied-is n = λ i. withViews h n noView (w .subslot1 i) (w .subslot2 i)
 
-
 -- a locked receiver has the account's number and misses
-handed-is : (r : Receiver) (a : Account) (bits : List ℕ) → r .clock .currentSlot ≡ a .number → r .lock .misses ≡ a .misses → Whole (r .slot)
+handed-is : (r : Receiver) (a : Account) (bits : List ℕ) → r .clock .currentSlot ≡ a .number → Whole (r .slot)
     → R.downlinkSlot r (checked SlotType.Dl bits) ≡ slotIn a bits
 unfolding R.downlinkSlot slotIn slotWith
-handed-is r a bits e f w =
-    λ i. record { time = e i; full = checked SlotType.Dl bits; subslot1 = w .subslot1 i; subslot2 = w .subslot2 i; misses = f i }
+handed-is r a bits e w =
+    λ i. record { time = e i; full = checked SlotType.Dl bits; subslot1 = w .subslot1 i; subslot2 = w .subslot2 i }
 
-handed-waits : (r : Receiver) (a : Account) (bits : List ℕ) (v : Waiting) → r .clock .currentSlot ≡ a .number → r .lock .misses ≡ a .misses → Waits (r .waits) (r .slot) v
+handed-waits : (r : Receiver) (a : Account) (bits : List ℕ) (v : Waiting) → r .clock .currentSlot ≡ a .number → Waits (r .waits) (r .slot) v
     → Waits true (R.downlinkSlot r (checked SlotType.Dl bits)) (changed (slot (slotIn a bits)) v)
 unfolding R.downlinkSlot changed
-handed-waits r a bits v e f w =
-    record { stands = (refl, handed-is r a bits e f (w .whole)); whole = record { subslot1 = w .whole .subslot1; subslot2 = w .whole .subslot2 } }
+handed-waits r a bits v e w =
+    record { stands = (refl, handed-is r a bits e (w .whole)); whole = record { subslot1 = w .whole .subslot1; subslot2 = w .whole .subslot2 } }
 
 module _ (b : Bool) (h : HandedSlot) where
   emptied-quiet : (v : Waiting) → Waits b h v → Waits b (R.emptied h (h .time)) (changed quiet v)
@@ -425,15 +424,14 @@ module _ (r : Receiver) (x : ComplexSample) (n : ℕ) (t : Tracked) where
       let r′ : Receiver = advanced (handed-over (listen r x) Dl) in
       let g = gap-span error in
       let ge = ap (λ (y : Lock). slotGap (errorAfter type (y .timingError) (slotTiming s′))) (l .lock) in
-      let mm = ap (λ (y : Lock). y .misses) (l .lock) in
-      let me = ap (nextMisses type) mm in
+      let me = ap (λ (y : Lock). nextMisses type (y .misses)) (l .lock) in
       let w : slotOf (pos (r .clock .currentSlot) +ℤ pos 1) ≡ suc k = rw (s .current) (next-slot k (omega (arith, s))) in
       let nn : suc k % slots ≡ suc k = mod-eq-of-lt (omega (arith, s)) in
       let y = slot-ready (shifted error (r .clock .referenceTime)) (suc k) in
       let b = shifted-parts error (r .clock .referenceTime) in
       let ready : ℤ = setSlot Dl (shifted error (r .clock .referenceTime)) (suc k) .slotReadyTime in
       let a : dn ready ≡ 0 = above-zero ready (omega (arith, y, b, s, g)) in
-      assemble (q .0 ∙ c) (one-window (q .1) (kind-slot (r .mode) (closeWindow (listen r x)) r′ (slotIn (t .account) (windowBits s′)) (l .mode) c (handed-is (listen r x) (t .account) (windowBits s′) (s .current) mm u)))
+      assemble (q .0 ∙ c) (one-window (q .1) (kind-slot (r .mode) (closeWindow (listen r x)) r′ (slotIn (t .account) (windowBits s′)) (l .mode) c (handed-is (listen r x) (t .account) (windowBits s′) (s .current) u)))
       (turn-slot t n s′ true e (l .locked) (lt-ltb (nextMisses type (t .account .misses)) 100 (omega (arith, leb-false 100 (nextMisses type (r .lock .misses)) f, me))))
       (record {
         timed = steady (record { mode = refl; locked = refl; lock = ap (λ (y : Lock). record { timingError = settledOf (errorAfter type (y .timingError) (slotTiming s′)); misses = nextMisses type (y .misses) }) (l .lock) })
@@ -449,7 +447,7 @@ module _ (r : Receiver) (x : ComplexSample) (n : ℕ) (t : Tracked) where
             }));
         signal = refl;
         windows = refl;
-        waiting = λ v h. handed-waits (listen r x) (t .account) (windowBits s′) v (s .current) mm h;
+        waiting = λ v h. handed-waits (listen r x) (t .account) (windowBits s′) v (s .current) h;
       })
 
   -- the hundredth miss
@@ -463,16 +461,15 @@ module _ (r : Receiver) (x : ComplexSample) (n : ℕ) (t : Tracked) where
       let q = shuts r x n (near n z (omega (arith, s)) (omega (arith, s))) (closes-yes n z (omega (arith, s))) in
       let c = close-loses (listen r x) (l .mode) f in
       let r′ : Receiver = withClock (handed-over (listen r x) DlUnsynchronized) (R.searchOn (r .clock)) in
-      let mm = ap (λ (y : Lock). y .misses) (l .lock) in
-      let me = ap (nextMisses type) mm in
+      let me = ap (λ (y : Lock). nextMisses type (y .misses)) (l .lock) in
       let a : dn (z +ℤ pos 400) ≡ 0 = above-zero (z +ℤ pos 400) (omega (arith, sum z (pos 400), s)) in
-      assemble (q .0 ∙ c) (one-window (q .1) (kind-slot (r .mode) (closeWindow (listen r x)) r′ (slotIn (t .account) (windowBits s′)) (l .mode) c (handed-is (listen r x) (t .account) (windowBits s′) (s .current) mm u)))
+      assemble (q .0 ∙ c) (one-window (q .1) (kind-slot (r .mode) (closeWindow (listen r x)) r′ (slotIn (t .account) (windowBits s′)) (l .mode) c (handed-is (listen r x) (t .account) (windowBits s′) (s .current) u)))
       (turn-slot t n s′ false e (l .locked) (le-ltb (nextMisses type (t .account .misses)) 100 (omega (arith, leb-true 100 (nextMisses type (r .lock .misses)) f, me))))
       (record {
         timed = searching (record { mode = refl; unlocked = refl; above-zero = a; due = omega (arith, sum z (pos 400), s, a); least = omega arith; most = omega arith; begun = omega (arith, s) });
         signal = refl;
         windows = refl;
-        waiting = λ v h. handed-waits (listen r x) (t .account) (windowBits s′) v (s .current) mm h;
+        waiting = λ v h. handed-waits (listen r x) (t .account) (windowBits s′) v (s .current) h;
       })
 
   -- all together

@@ -25,9 +25,9 @@ start = record { due = 1034; locked = false; number = 0; misses = 0; windows = [
 unfoldable pub typeOf : List ℕ → ℕ
 typeOf bits = checked SlotType.Dl bits .type
 
--- a downlink slot with this number and this view, after so many misses: nothing is found in its halves
+-- a downlink slot with this number and this view: nothing is found in its halves
 unfoldable pub slotWith : Account → BurstView → HandedSlot
-slotWith a v = record { time = a .number; full = v; subslot1 = noView; subslot2 = noView; misses = a .misses }
+slotWith a v = record { time = a .number; full = v; subslot1 = noView; subslot2 = noView }
 
 -- the slot of a locked window's bits: with the burst view of that type
 unfoldable pub slotIn : Account → (bits : List ℕ) → HandedSlot

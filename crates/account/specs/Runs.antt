@@ -47,7 +47,7 @@ callsIn other kinds re im counters slot subslot1 subslot2 room =
 
 -- an answer's row
 abbrev pub rowLength : ℕ
-rowLength = 15
+rowLength = 14
 
 -- how many calls there is room for in so many numbers and so many bytes
 unfoldable pub roomIn : (told lent : ℕ) → ℕ
@@ -57,12 +57,12 @@ roomIn told lent = min (told / rowLength) (lent / 3072)
 unfoldable pub viewRow : RxBurst → List ℕ
 viewRow v = v .«train_type» ∷ v .«train_errs» ∷ v .«burst_pos» ∷ v .«burst_len» ∷ []
 
--- an answer: 0 and a refusal's number; 1; or 2, the slot's number, its three views and its misses. `row-tells` of proofs/Rows.antt: no two answers
+-- an answer: 0 and a refusal's number; 1; or 2, the slot's number and its three views. `row-tells` of proofs/Rows.antt: no two answers
 -- have one row
 unfoldable pub rowOf : Reply RxSlot → List ℕ
-rowOf (refused n) = 0 ∷ n ∷ replicate 13 0
-rowOf done = 1 ∷ 0 ∷ replicate 13 0
-rowOf (took s) = 2 ∷ s .time .0 ∷ (viewRow (s .full) ++ (viewRow (s .subslot1) ++ (viewRow (s .subslot2) ++ s .misses ∷ [])))
+rowOf (refused n) = 0 ∷ n ∷ replicate 12 0
+rowOf done = 1 ∷ 0 ∷ replicate 12 0
+rowOf (took s) = 2 ∷ s .time .0 ∷ (viewRow (s .full) ++ (viewRow (s .subslot1) ++ viewRow (s .subslot2)))
 
 -- the rows of answers, in the order of their calls
 unfoldable pub rows : List (Reply HandedSlot) → List ℕ

@@ -11,7 +11,7 @@ ghost use Rattle.demodulator.specs.Calls.{took, padded, replyOf, takeReplyOf, i
 ghost use Rattle.account.specs.Runs.{lentBytes, rowOf};
 
 // How many numbers tell an answer.
-pub(crate) const ROW: usize = 15;
+pub(crate) const ROW: usize = 14;
 
 // A slice to lend, in 1,024 bytes: so many sevens, zeros behind them.
 pub(crate) fn sevens(n: usize) -> [u8; 1024]
@@ -28,8 +28,8 @@ pub(crate) fn answer_row(answer: Answer) -> [u64; ROW]
     ensures { λ r. ⌜ r ≡ rowOf (inNumbers (replyOf answer)) ⌝ }
 {
     match answer {
-        Answer::Accepted => [1, 0, 0, 0, 0, 0, 0, 0, 0, 0, 0, 0, 0, 0, 0],
-        Answer::Refused(n) => [0, n as u64, 0, 0, 0, 0, 0, 0, 0, 0, 0, 0, 0, 0, 0],
+        Answer::Accepted => [1, 0, 0, 0, 0, 0, 0, 0, 0, 0, 0, 0, 0, 0],
+        Answer::Refused(n) => [0, n as u64, 0, 0, 0, 0, 0, 0, 0, 0, 0, 0, 0, 0],
     }
 }
 
@@ -51,7 +51,6 @@ fn slot_row(slot: RxSlot) -> [u64; ROW]
         slot.subslot2.train_errs as u64,
         slot.subslot2.burst_pos as u64,
         slot.subslot2.burst_len as u64,
-        slot.misses as u64,
     ]
 }
 
@@ -60,7 +59,7 @@ pub(crate) fn take_row(answer: TakeAnswer) -> [u64; ROW]
 {
     match answer {
         TakeAnswer::Slot(slot) => slot_row(slot),
-        TakeAnswer::Refused(n) => [0, n as u64, 0, 0, 0, 0, 0, 0, 0, 0, 0, 0, 0, 0, 0],
+        TakeAnswer::Refused(n) => [0, n as u64, 0, 0, 0, 0, 0, 0, 0, 0, 0, 0, 0, 0],
     }
 }
 

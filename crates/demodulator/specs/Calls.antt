@@ -119,7 +119,7 @@ unfoldable pub burstShown : BurstView → RxBurst
 burstShown v = record { «train_type» = v .type; «train_errs» = v .errors; «burst_pos» = v .place; «burst_len» = length (v .bits) }
 
 unfoldable pub shownAs : HandedSlot → ℕ → (full subslot1 subslot2 : RxBurst) → RxSlot
-shownAs h n v v1 v2 = record { time = record { 0 = n }; full = v; subslot1 = v1; subslot2 = v2; misses = h .misses }
+shownAs h n v v1 v2 = record { time = record { 0 = n }; full = v; subslot1 = v1; subslot2 = v2 }
 
 unfoldable pub shown : HandedSlot → RxSlot
 shown h = shownAs h (h .time) (burstShown (h .full)) (burstShown (h .subslot1)) (burstShown (h .subslot2))

@@ -42,12 +42,10 @@ pub record HandedSlot : Type 0 where
   pub full : BurstView
   pub subslot1 : BurstView
   pub subslot2 : BurstView
-  -- slots in a row without a training sequence before this one
-  pub misses : ℕ
 
 -- a slot with its number and its views anew
 unfoldable pub withViews : HandedSlot → ℕ → (full subslot1 subslot2 : BurstView) → HandedSlot
-withViews h n v v1 v2 = record { time = n; full = v; subslot1 = v1; subslot2 = v2; misses = h .misses }
+withViews h n v v1 v2 = record { time = n; full = v; subslot1 = v1; subslot2 = v2 }
 
 -- how good the lock is: the averaged timing error, and handed slots in a row without a training sequence
 pub record Lock : Type 0 where
@@ -129,7 +127,7 @@ checked k bits = viewOn bits (checkSlot k bits)
 -- ---- a new receiver
 
 unfoldable pub noSlot : HandedSlot
-noSlot = record { time = 0; full = noView; subslot1 = noView; subslot2 = noView; misses = 0 }
+noSlot = record { time = 0; full = noView; subslot1 = noView; subslot2 = noView }
 
 unfoldable pub new : Mode → Receiver
 new m =
@@ -185,14 +183,14 @@ unfoldable pub modeAfter : ℕ → Mode
 modeAfter misses = cond (leb 100 misses) DlUnsynchronized Dl
 
 unfoldable pub downlinkSlot : Receiver → BurstView → HandedSlot
-downlinkSlot r v = record { time = r .clock .currentSlot; full = v; subslot1 = r .slot .subslot1; subslot2 = r .slot .subslot2; misses = r .lock .misses }
+downlinkSlot r v = record { time = r .clock .currentSlot; full = v; subslot1 = r .slot .subslot1; subslot2 = r .slot .subslot2 }
 
 unfoldable pub downlinkWindow : BurstView → Lock → Receiver → Receiver
 downlinkWindow v l r = handOver (withMode (withLock r l) (modeAfter (l .misses))) (downlinkSlot r v)
 
 -- Ul: slot numbers are 2 less, wrapping; a full window and one for each half
 unfoldable pub uplinkViews : ℕ → (full subslot1 subslot2 : BurstView) → HandedSlot
-uplinkViews n v v1 v2 = record { time = n; full = v; subslot1 = v1; subslot2 = v2; misses = 0 }
+uplinkViews n v v1 v2 = record { time = n; full = v; subslot1 = v1; subslot2 = v2 }
 
 unfoldable pub uplinkSlot : ℕ → Signal → HandedSlot
 uplinkSlot current s =

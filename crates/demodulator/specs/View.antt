@@ -65,7 +65,6 @@ receiverOf s re im abs =
             full = storedView 510 (s .«full_bits») (s .«demodulated_slot» .full);
             subslot1 = storedView 254 (s .«subslot1_bits») (s .«demodulated_slot» .subslot1);
             subslot2 = storedView 254 (s .«subslot2_bits») (s .«demodulated_slot» .subslot2);
-            misses = s .«demodulated_slot» .misses;
           };
       next = s .«next_input_sample_count» .0;
       signal = signalFrom (lineOf (s .«matched_filter»)) re im abs (s .«past_index»);

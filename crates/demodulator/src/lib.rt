@@ -51,8 +51,6 @@ pub struct RxSlot {
     pub full: RxBurst,
     pub subslot1: RxBurst,
     pub subslot2: RxBurst,
-    // Slots in a row without a training sequence before this one.
-    pub misses: u32,
 }
 
 // All of a receiver but its past: it goes by value. Modes and training sequences are numbers, so that C can hold one. A

@@ -55,7 +55,6 @@ impl State {
             full: empty,
             subslot1: empty,
             subslot2: empty,
-            misses: 0,
         };
         State {
             mode,

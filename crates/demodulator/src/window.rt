@@ -159,7 +159,6 @@ impl State {
             full,
             subslot1: first,
             subslot2: second,
-            misses: self.slots_since_last_valid_burst,
         };
         let mut d = self;
         d.demodulated_slot = slot;
@@ -202,7 +201,6 @@ impl State {
             full,
             subslot1: first,
             subslot2: second,
-            misses: 0,
         };
         let mut d = self;
         d.demodulated_slot = slot;

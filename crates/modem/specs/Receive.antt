@@ -19,7 +19,7 @@ abbrev pub noBurst : RxBurst
 noBurst = record { «train_type» = 0; «train_errs» = 0; «burst_pos» = 0; «burst_len» = 0 }
 
 abbrev pub noSlot : RxSlot
-noSlot = record { time = record { 0 = 0 }; full = noBurst; subslot1 = noBurst; subslot2 = noBurst; misses = 0 }
+noSlot = record { time = record { 0 = 0 }; full = noBurst; subslot1 = noBurst; subslot2 = noBurst }
 
 -- the slot that was taken
 unfoldable pub slotOf : Reply RxSlot → RxSlot

@@ -91,7 +91,6 @@ fn no_slot() -> RxSlot
         full: none,
         subslot1: none,
         subslot2: none,
-        misses: 0,
     }
 }
 

@@ -28,7 +28,7 @@ mod library {
     pub struct State {
         head: [u64; 6],
         pub slot_waits: bool,
-        rest: [u64; 239],
+        rest: [u64; 238],
     }
 
     #[derive(Clone, Copy)]
@@ -66,7 +66,6 @@ mod library {
     pub struct Handed {
         pub time: u32,
         pub bursts: [Burst; 3],
-        pub misses: u32,
     }
 
     #[repr(C)]

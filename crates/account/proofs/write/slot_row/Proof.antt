@@ -16,12 +16,9 @@ cast-t7 c = search needs
 cast-t11 : tie.Need-cast-t11
 cast-t11 c = search needs
 
-cast-t15 : tie.Need-cast-t15
-cast-t15 c = search needs
-
 returns : tie.Need-returns
 unfolding rowOf viewRow
 returns c = search needs
 
 pub slot-row-spec : {M : Type 1} → statement M
-slot-row-spec = tie.close (tie.spec cast-t2 cast-t3 cast-t7 cast-t11 cast-t15 returns)
+slot-row-spec = tie.close (tie.spec cast-t2 cast-t3 cast-t7 cast-t11 returns)
