@@ -18,7 +18,7 @@ use Rattle.demodulator.specs.Valid.{valid, validSlot}
 use Rattle.demodulator.specs.Calls.{Reply, refused, done, took, Outcome, unless, sampleRefusal, sampled, sampleOutcome, takeRefusal, taken, takeOutcome, followRefusal, followed, followOutcome}
 use Rattle.account.specs.CallList as CallList
 use Rattle.account.specs.CallList.{Call, sample, follow, lent, outcome, after, answers, lentAfter}
-use Rattle.account.specs.Rules.{Turn, between, stays, locks, hands, loses, typeOf, slotWith, slotIn, nextMisses}
+use Rattle.account.specs.Rules.{Account, Turn, between, stays, locks, hands, loses, typeOf, slotWith, slotIn, nextMisses}
 use Rattle.account.specs.Tracked.{Tracked, signalOf, slotGap, errorAfter, searchTurn, slotTurn, turn, tracked, account}
 use Rattle.account.specs.Account as Claim
 use Rattle.account.specs.Account.{Told, waits, changed, lastHanded, toldTake, heard, nextCounter, Counted, accountOf, expected, expectedAll, filledBy, expectedLent, Gives, Reported, Demand3, Throughout}
@@ -108,39 +108,39 @@ fills (c ∷ cs) e =
     λ i. one i ∷ fills cs (h .1) i
 
 -- ---- a locked window with a burst's bits
-gives : (k : ℕ) (bits : List ℕ) (type : ℕ) (answer : Reply HandedSlot) → answer ≡ toldTake true (waits (slotIn k bits)) → typeOf bits ≡ type → Gives k type answer
+gives : (a : Account) (bits : List ℕ) (type : ℕ) (answer : Reply HandedSlot) → answer ≡ toldTake true (waits (slotIn a bits)) → typeOf bits ≡ type → Gives (a .number) type answer
 unfolding Gives toldTake slotIn slotWith typeOf
-gives k bits type answer e f = rw e (refl, f)
+gives a bits type answer e f = rw e (refl, f)
 
 locked-window : (t : Tracked) (n : ℕ) (s : Signal) → eqb n (t .account .due) ≡ true → t .account .locked ≡ true
-    → turn t n s .account .windows ≡ record { counter = n; kind = slot (slotIn (t .account .number) (windowBits s)) } ∷ t .account .windows
+    → turn t n s .account .windows ≡ record { counter = n; kind = slot (slotIn (t .account) (windowBits s)) } ∷ t .account .windows
 unfolding slotTurn
 locked-window t n s e g = go (ltb (nextMisses (typeOf (windowBits s)) (t .account .misses)) 100) refl
   where
     go : (b : Bool) → ltb (nextMisses (typeOf (windowBits s)) (t .account .misses)) 100 ≡ b
-        → turn t n s .account .windows ≡ record { counter = n; kind = slot (slotIn (t .account .number) (windowBits s)) } ∷ t .account .windows
+        → turn t n s .account .windows ≡ record { counter = n; kind = slot (slotIn (t .account) (windowBits s)) } ∷ t .account .windows
     go true i = rw (turn-slot t n s true e g i)
     go false i = rw (turn-slot t n s false e g i)
 
 windows-is : (x : ComplexSample) (older : List ComplexSample) → tracked older .account .locked ≡ true → tracked older .account .due ≡ length older
     → tracked (x ∷ older) .account .windows
-    ≡ record { counter = length older; kind = slot (slotIn (tracked older .account .number) (windowBits (signalOf (x ∷ older)))) } ∷ tracked older .account .windows
+    ≡ record { counter = length older; kind = slot (slotIn (tracked older .account) (windowBits (signalOf (x ∷ older)))) } ∷ tracked older .account .windows
 unfolding tracked
 windows-is x older u d = locked-window (tracked older) (length older) (signalOf (x ∷ older)) (eq-eqb (length older) (tracked older .account .due) (sym d)) u
 
 waiting-is : (x : ComplexSample) (c : ℤ) (cs : List Call) → Agree cs → sampleRefusal (nextCounter cs) x c ≡ 0 → tracked (heard cs) .account .locked ≡ true
     → tracked (heard cs) .account .due ≡ length (heard cs)
-    → Claim.waiting (sample x c ∷ cs) ≡ waits (slotIn (tracked (heard cs) .account .number) (windowBits (signalOf (x ∷ heard cs))))
+    → Claim.waiting (sample x c ∷ cs) ≡ waits (slotIn (tracked (heard cs) .account) (windowBits (signalOf (x ∷ heard cs))))
 unfolding Claim.waiting accountOf account lastHanded changed
 waiting-is x c cs g z u d =
-    let w : Window = record { counter = length (heard cs); kind = slot (slotIn (tracked (heard cs) .account .number) (windowBits (signalOf (x ∷ heard cs)))) } in
+    let w : Window = record { counter = length (heard cs); kind = slot (slotIn (tracked (heard cs) .account) (windowBits (signalOf (x ∷ heard cs)))) } in
     rw (heard-is x c cs z, seen-sample x c cs, windows-is x (heard cs) u d, newer-cons (Claim.seen cs) w (tracked (heard cs) .account .windows) (g .seen))
 
 reported-sample : (x : ComplexSample) (c : ℤ) (cs : List Call) → Agree cs → Agree (sample x c ∷ cs) → Reported (sample x c ∷ cs)
 unfolding Reported accountOf account
 reported-sample x c cs g h z u d type burst s a b f =
     let bits : List ℕ = windowBits (signalOf (x ∷ heard cs)) in
-    let k : ℕ = tracked (heard cs) .account .number in
+    let k : Account = tracked (heard cs) .account in
     gives k bits type (outcome (after (sample x c ∷ cs)) (CallList.take s a b) .reply)
     (take-leaves (after (sample x c ∷ cs)) s a b true (waits (slotIn k bits)) f (h .within) (rw (waiting-is x c cs g z u d) at (h .waiting)) .answer)
     (window-type (signalOf (x ∷ heard cs)) burst)

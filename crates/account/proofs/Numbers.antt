@@ -104,7 +104,7 @@ same-slot : {g h : HandedSlot} → slot g ≡ slot h → g ≡ h
 same-slot e = cc
 
 search-read : (b : Bool) (place : ℕ) (r : Receiver) → r .clock .currentSlot < slots → Read DlUnsynchronized r (R.searchWindow b place r)
-unfolding kindOf R.searchWindow R.found R.notFoundYet R.emptied R.setSlot withMode withClock withLock withSlot
+unfolding kindOf R.searchWindow R.found R.notFoundYet R.withViews R.emptied R.setSlot withMode withClock withLock withSlot
 search-read true place r few =
     record {
       current = slot-below (negsuc 0);

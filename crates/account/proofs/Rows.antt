@@ -9,7 +9,7 @@ use Rattle.demodulator.specs.declared.RxBurst.{RxBurst}
 use Rattle.demodulator.specs.declared.RxSlot.{RxSlot}
 use Rattle.demodulator.specs.Receiver.{HandedSlot}
 use Rattle.demodulator.specs.Calls.{Reply, refused, done, took, inNumbers, padded}
-use Rattle.account.specs.Runs.{viewRow, rowOf, rows, bytesOf, bytesOfAll}
+use Rattle.account.specs.Runs.{rowLength, viewRow, rowOf, rows, bytesOf, bytesOfAll}
 
 -- ---- bits with zeros behind them
 
@@ -49,13 +49,13 @@ padded-over (suc n) (b ∷ bits) (o ∷ others) h e = ap (λ (l : List ℕ). o �
 
 -- ---- rows
 
-pub length-row : (a : Reply RxSlot) → length (rowOf a) ≡ 14
+pub length-row : (a : Reply RxSlot) → length (rowOf a) ≡ rowLength
 unfolding rowOf viewRow
 length-row (refused n) = refl
 length-row done = refl
 length-row (took s) = refl
 
-pub length-rows : (replies : List (Reply HandedSlot)) → length (rows replies) ≡ 14 * length replies
+pub length-rows : (replies : List (Reply HandedSlot)) → length (rows replies) ≡ rowLength * length replies
 unfolding rows
 length-rows [] = refl
 length-rows (a ∷ earlier) = rw (length-append (rows earlier) (rowOf (inNumbers a))) (omega (arith, length-rows earlier, length-row (inNumbers a)))

@@ -17,7 +17,7 @@ use Rattle.demodulator.specs.Valid.{valid}
 use Rattle.demodulator.specs.Calls.{Reply, Outcome, unless, sampleRefusal, sampled, sampleOutcome, takeOutcome, followRefusal, followed, followOutcome, inNumbers, padded}
 use Rattle.account.specs.CallList as CallList
 use Rattle.account.specs.CallList.{Call, sample, follow, outcome, after, answers, lentAfter}
-use Rattle.account.specs.Runs.{lentBytes, callOf, callsOf, fewest, roomIn, callsIn, rowOf, rows, bytesOf, bytesOfAll, Makes, Written, Ran}
+use Rattle.account.specs.Runs.{rowLength, lentBytes, callOf, callsOf, fewest, roomIn, callsIn, rowOf, rows, bytesOf, bytesOfAll, Makes, Written, Ran}
 use Rattle.account.proofs.Demand.{demand3, throughout}
 use Rattle.account.proofs.Rows.{padded-none, padded-front, padded-over, length-row, length-rows, length-bytes, length-all, behind}
 
@@ -82,7 +82,7 @@ follows r other e f h l =
       lends = l ∙ none-lent ∙ ap bytesOf (sym (unless-none (followRefusal (r .mode)) r (followed r other) refl));
     }
 
-pub made-row : {r r′ : Receiver} {c : Call} {told lent : List ℕ} → Makes r c r′ told lent → length told ≡ 14
+pub made-row : {r r′ : Receiver} {c : Call} {told lent : List ℕ} → Makes r c r′ told lent → length told ≡ rowLength
 made-row {r} {c = c} m = ap length (m .tells) ∙ length-row (inNumbers (outcome r c .reply))
 
 pub made-bytes : {r r′ : Receiver} {c : Call} {told lent : List ℕ} → Makes r c r′ told lent → length lent ≡ 3072
@@ -119,15 +119,15 @@ length-lent (c ∷ cs) = ap suc (length-lent cs)
 
 -- one call more is written behind the others
 module _ (c : Call) (cs : List Call) {r r′ : Receiver} {row bytes told₀ told lent₀ lent : List ℕ} (w : Written cs r told₀ told lent₀ lent) (m : Makes r c r′ row bytes) where
-  more-told : {told′ : List ℕ} → told′ ≡ take (14 * length cs) told ++ row ++ drop (14 * length cs + length row) told
-      → told′ ≡ rows (answers (c ∷ cs)) ++ drop (14 * length (c ∷ cs)) told₀
+  more-told : {told′ : List ℕ} → told′ ≡ take (rowLength * length cs) told ++ row ++ drop (rowLength * length cs + length row) told
+      → told′ ≡ rows (answers (c ∷ cs)) ++ drop (rowLength * length (c ∷ cs)) told₀
   unfolding answers rows
   more-told {told′} p =
-      let size : length row ≡ 14 = made-row m in
-      let front : length (rows (answers cs)) ≡ 14 * length cs = length-rows (answers cs) ∙ ap (λ (k : ℕ). 14 * k) (length-answers cs) in
+      let size : length row ≡ rowLength = made-row m in
+      let front : length (rows (answers cs)) ≡ rowLength * length cs = length-rows (answers cs) ∙ ap (λ (k : ℕ). rowLength * k) (length-answers cs) in
       let is : row ≡ rowOf (inNumbers (outcome (after cs) c .reply)) = m .tells ∙ ap (λ (u : Receiver). rowOf (inNumbers (outcome u c .reply))) (w .receiver) in
-      behind told₀ told told′ (rows (answers cs)) row (14 * length cs) 14 (14 * suc (length cs)) (w .tells) front size (omega arith) p
-      ∙ ap (λ (l : List ℕ). (rows (answers cs) ++ l) ++ drop (14 * suc (length cs)) told₀) is
+      behind told₀ told told′ (rows (answers cs)) row (rowLength * length cs) rowLength (rowLength * suc (length cs)) (w .tells) front size (omega arith) p
+      ∙ ap (λ (l : List ℕ). (rows (answers cs) ++ l) ++ drop (rowLength * suc (length cs)) told₀) is
 
   more-lent : {lent′ : List ℕ} → lent′ ≡ take (3072 * length cs) lent ++ bytes ++ drop (3072 * length cs + length bytes) lent
       → lent′ ≡ bytesOfAll (lentAfter (c ∷ cs)) ++ drop (3072 * length (c ∷ cs)) lent₀
@@ -139,7 +139,7 @@ module _ (c : Call) (cs : List Call) {r r′ : Receiver} {row bytes told₀ told
       behind lent₀ lent lent′ (bytesOfAll (lentAfter cs)) bytes (3072 * length cs) 3072 (3072 * suc (length cs)) (w .lends) front size (omega arith) p
       ∙ ap (λ (l : List ℕ). (bytesOfAll (lentAfter cs) ++ l) ++ drop (3072 * suc (length cs)) lent₀) is
 
-  more : {told′ lent′ : List ℕ} → told′ ≡ take (14 * length cs) told ++ row ++ drop (14 * length cs + length row) told
+  more : {told′ lent′ : List ℕ} → told′ ≡ take (rowLength * length cs) told ++ row ++ drop (rowLength * length cs + length row) told
       → lent′ ≡ take (3072 * length cs) lent ++ bytes ++ drop (3072 * length cs + length bytes) lent → Written (c ∷ cs) r′ told₀ told′ lent₀ lent′
   unfolding after
   more p q = record { receiver = m .receiver ∙ ap (λ (u : Receiver). outcome u c .receiver) (w .receiver); tells = more-told p; lends = more-lent q }
@@ -153,7 +153,7 @@ ran : (cs : List Call) {r : Receiver} {told told′ lent lent′ : List ℕ} →
 ran cs {told = told} {lent = lent} w =
     record {
       written = w;
-      expected = λ u. w .tells ∙ ap (λ (l : List (Reply HandedSlot)). rows l ++ drop (14 * length cs) told) (demand3 cs u .answered);
+      expected = λ u. w .tells ∙ ap (λ (l : List (Reply HandedSlot)). rows l ++ drop (rowLength * length cs) told) (demand3 cs u .answered);
       filled = λ u. w .lends ∙ ap (λ (l : List (List (List ℕ))). bytesOfAll l ++ drop (3072 * length cs) lent) (demand3 cs u .fills);
       keeps = throughout cs;
     }
@@ -167,7 +167,7 @@ pub record Enough (kinds re im counters slot subslot1 subslot2 told lent n : ℕ
   pub of-slot : n ≤ slot
   pub of-subslot1 : n ≤ subslot1
   pub of-subslot2 : n ≤ subslot2
-  pub of-told : 14 * n ≤ told
+  pub of-told : rowLength * n ≤ told
   pub of-lent : 3072 * n ≤ lent
 
 pub counted : {n room held r h : ℕ} → n ≡ min r h → r ≡ room → h ≡ held → n ≡ min room held
@@ -177,7 +177,7 @@ pub enough : (kinds re im counters slot subslot1 subslot2 told lent n : ℕ) →
     → Enough kinds re im counters slot subslot1 subslot2 told lent n
 unfolding fewest roomIn
 enough a b c d e f g told lent n p =
-    let room : ℕ = min (told / 14) (lent / 3072) in
+    let room : ℕ = min (told / rowLength) (lent / 3072) in
     let h0 : n ≤ min a (min b (min c (min d (min e (min f g))))) = rw p (min-le-right room (min a (min b (min c (min d (min e (min f g))))))) in
     let r0 : n ≤ room = rw p (min-le-left room (min a (min b (min c (min d (min e (min f g))))))) in
     let h1 = le-trans h0 (min-le-right a (min b (min c (min d (min e (min f g)))))) in
@@ -185,8 +185,8 @@ enough a b c d e f g told lent n p =
     let h3 = le-trans h2 (min-le-right c (min d (min e (min f g)))) in
     let h4 = le-trans h3 (min-le-right d (min e (min f g))) in
     let h5 = le-trans h4 (min-le-right e (min f g)) in
-    let r1 = le-trans r0 (min-le-left (told / 14) (lent / 3072)) in
-    let r2 = le-trans r0 (min-le-right (told / 14) (lent / 3072)) in
+    let r1 = le-trans r0 (min-le-left (told / rowLength) (lent / 3072)) in
+    let r2 = le-trans r0 (min-le-right (told / rowLength) (lent / 3072)) in
     record {
       of-kinds = le-trans h0 (min-le-left a _);
       of-re = le-trans h1 (min-le-left b _);
@@ -212,7 +212,7 @@ module _ (other : Receiver) (kinds : List ℕ) (re im : List Float) (counters : 
   pub one-more : {r r′ : Receiver} {row bytes told₀ told told′ lent₀ lent lent′ : List ℕ} (i : ℕ) {z : ℤ}
       → Written (callsOf other kinds re im counters slot subslot1 subslot2 i) r told₀ told lent₀ lent
       → Makes r (callOf other (getD kinds i 0) (record { re = getD re i nan; im = getD im i nan }) z (getD slot i 0) (getD subslot1 i 0) (getD subslot2 i 0)) r′ row bytes
-      → z ≡ getD counters i (pos 0) → told′ ≡ take (14 * i) told ++ row ++ drop (14 * i + length row) told
+      → z ≡ getD counters i (pos 0) → told′ ≡ take (rowLength * i) told ++ row ++ drop (rowLength * i + length row) told
       → lent′ ≡ take (3072 * i) lent ++ bytes ++ drop (3072 * i + length bytes) lent
       → Written (callsOf other kinds re im counters slot subslot1 subslot2 (i + 1)) r′ told₀ told′ lent₀ lent′
   unfolding callsOf

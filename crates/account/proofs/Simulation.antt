@@ -23,9 +23,9 @@ use Rattle.demodulator.specs.Signal.{Signal, hear, slotTiming, windowBits}
 use Rattle.demodulator.specs.Receiver as R
 use Rattle.demodulator.specs.declared.Mode.{Mode}
 use Rattle.demodulator.specs.declared.Mode.the-variants.{DlUnsynchronized, Dl}
-use Rattle.demodulator.specs.Receiver.{Clock, Lock, HandedSlot, Receiver, withMode, withClock, withLock, withWaits, withSlot, withSignal, noView, checked, far, slotsToSkip, listen, closeWindow, processSample, setSlot, addSlots}
+use Rattle.demodulator.specs.Receiver.{Clock, Lock, HandedSlot, Receiver, withViews, withMode, withClock, withLock, withWaits, withSlot, withSignal, noView, checked, far, slotsToSkip, listen, closeWindow, processSample, setSlot, addSlots}
 use Rattle.demodulator.specs.Windows.{Kind, quiet, lock, slot, Window, kindOf, searchKind, windowOf, windowIf}
-use Rattle.account.specs.Rules.{typeOf, slotWith, slotIn, nextMisses, nextNumber}
+use Rattle.account.specs.Rules.{Account, typeOf, slotWith, slotIn, nextMisses, nextNumber}
 use Rattle.account.specs.Tracked.{Tracked, gapOf, slotGap, errorAfter, searchTurn, slotTurn, windowTurn, turnIf, turn}
 use Rattle.account.specs.Account.{Waiting, nothing, waits, changed}
 use Rattle.account.proofs.Laws.{not-late, not-early, Placed, placed}
@@ -92,37 +92,41 @@ pub record Waits (b : Bool) (h : HandedSlot) (v : Waiting) : Type 0 where
   pub whole : Whole h
 
 module _ (h : HandedSlot) (w : Whole h) where
-  emptied-is : (n : ℕ) → R.emptied h n ≡ slotWith n noView
-  unfolding R.emptied slotWith
-  emptied-is n = λ i. record { time = n; full = noView; subslot1 = w .subslot1 i; subslot2 = w .subslot2 i }
+  emptied-is : (n : ℕ) → R.emptied h n ≡ withViews h n noView noView noView
+  unfolding R.emptied
+  emptied-is n = λ i. withViews h n noView (w .subslot1 i) (w .subslot2 i)
 
-  handed-is : (k n : ℕ) (bits : List ℕ) → k ≡ n → R.downlinkSlot h k (checked SlotType.Dl bits) ≡ slotIn n bits
-  unfolding R.downlinkSlot slotIn slotWith
-  handed-is k n bits e = λ i. record { time = e i; full = checked SlotType.Dl bits; subslot1 = w .subslot1 i; subslot2 = w .subslot2 i }
+-- a locked receiver has the account's number and misses
+handed-is : (r : Receiver) (a : Account) (bits : List ℕ) → r .clock .currentSlot ≡ a .number → Whole (r .slot)
+    → R.downlinkSlot r (checked SlotType.Dl bits) ≡ slotIn a bits
+unfolding R.downlinkSlot slotIn slotWith
+handed-is r a bits e w =
+    λ i. record { time = e i; full = checked SlotType.Dl bits; subslot1 = w .subslot1 i; subslot2 = w .subslot2 i }
+
+handed-waits : (r : Receiver) (a : Account) (bits : List ℕ) (v : Waiting) → r .clock .currentSlot ≡ a .number → Waits (r .waits) (r .slot) v
+    → Waits true (R.downlinkSlot r (checked SlotType.Dl bits)) (changed (slot (slotIn a bits)) v)
+unfolding R.downlinkSlot changed
+handed-waits r a bits v e w =
+    record { stands = (refl, handed-is r a bits e (w .whole)); whole = record { subslot1 = w .whole .subslot1; subslot2 = w .whole .subslot2 } }
 
 module _ (b : Bool) (h : HandedSlot) where
   emptied-quiet : (v : Waiting) → Waits b h v → Waits b (R.emptied h (h .time)) (changed quiet v)
-  unfolding R.emptied changed
+  unfolding withViews R.emptied changed
   emptied-quiet nothing w = record { stands = w .stands; whole = record { subslot1 = w .whole .subslot1; subslot2 = w .whole .subslot2 } }
   emptied-quiet (waits v) w =
       record {
-        stands = (w .stands .0, emptied-is h (w .whole) (h .time) ∙ ap (λ (g : HandedSlot). slotWith (g .time) noView) (w .stands .1));
+        stands = (w .stands .0, emptied-is h (w .whole) (h .time) ∙ ap (λ (g : HandedSlot). withViews g (g .time) noView noView noView) (w .stands .1));
         whole = record { subslot1 = w .whole .subslot1; subslot2 = w .whole .subslot2 };
       }
 
   emptied-lock : (v : Waiting) → Waits b h v → Waits b (R.emptied h 0) (changed lock v)
-  unfolding R.emptied changed
+  unfolding withViews R.emptied changed
   emptied-lock nothing w = record { stands = w .stands; whole = record { subslot1 = w .whole .subslot1; subslot2 = w .whole .subslot2 } }
   emptied-lock (waits v) w =
       record {
-        stands = (w .stands .0, emptied-is h (w .whole) 0);
+        stands = (w .stands .0, emptied-is h (w .whole) 0 ∙ ap (λ (g : HandedSlot). withViews g 0 noView noView noView) (w .stands .1));
         whole = record { subslot1 = w .whole .subslot1; subslot2 = w .whole .subslot2 };
       }
-
-  handed-waits : (k n : ℕ) (bits : List ℕ) (v : Waiting) → k ≡ n → Waits b h v → Waits true (R.downlinkSlot h k (checked SlotType.Dl bits)) (changed (slot (slotIn n bits)) v)
-  unfolding R.downlinkSlot changed
-  handed-waits k n bits v e w =
-      record { stands = (refl, handed-is h (w .whole) k n bits e); whole = record { subslot1 = w .whole .subslot1; subslot2 = w .whole .subslot2 } }
 
 -- a sample with the counter n takes r to r′, closing the windows w
 pub record Stepped (r r′ : Receiver) (w : List Window) (n : ℕ) (s : Signal) (t t′ : Tracked) : Type 0 where
@@ -227,7 +231,7 @@ module _ (r : Receiver) where
 
   unfoldable handed-over : Mode → Receiver
   handed-over m =
-      R.handOver (withMode (withLock r (lockOn type)) m) (R.downlinkSlot (r .slot) (r .clock .currentSlot) (checked SlotType.Dl (windowBits (r .signal))))
+      R.handOver (withMode (withLock r (lockOn type)) m) (R.downlinkSlot r (checked SlotType.Dl (windowBits (r .signal))))
 
   lock-is : (k : ℕ) → R.lockAfter (r .lock) (slotTiming (r .signal)) k ≡ lockOn k
   unfolding R.lockAfter errorAfter nextMisses
@@ -428,7 +432,7 @@ module _ (r : Receiver) (x : ComplexSample) (n : ℕ) (t : Tracked) where
       let b = shifted-parts error (r .clock .referenceTime) in
       let ready : ℤ = setSlot Dl (shifted error (r .clock .referenceTime)) (suc k) .slotReadyTime in
       let a : dn ready ≡ 0 = above-zero ready (omega (arith, y, b, s, g)) in
-      assemble (q .0 ∙ c) (one-window (q .1) (kind-slot (r .mode) (closeWindow (listen r x)) r′ (slotIn k (windowBits s′)) (l .mode) c (handed-is (r .slot) u (r .clock .currentSlot) k (windowBits s′) (s .current))))
+      assemble (q .0 ∙ c) (one-window (q .1) (kind-slot (r .mode) (closeWindow (listen r x)) r′ (slotIn (t .account) (windowBits s′)) (l .mode) c (handed-is (listen r x) (t .account) (windowBits s′) (s .current) u)))
       (turn-slot t n s′ true e (l .locked) (lt-ltb (nextMisses type (t .account .misses)) 100 (omega (arith, leb-false 100 (nextMisses type (r .lock .misses)) f, me))))
       (record {
         timed = steady (record { mode = refl; locked = refl; lock = ap (λ (y : Lock). record { timingError = settledOf (errorAfter type (y .timingError) (slotTiming s′)); misses = nextMisses type (y .misses) }) (l .lock) })
@@ -444,7 +448,7 @@ module _ (r : Receiver) (x : ComplexSample) (n : ℕ) (t : Tracked) where
             }));
         signal = refl;
         windows = refl;
-        waiting = λ v h. handed-waits (r .waits) (r .slot) (r .clock .currentSlot) k (windowBits s′) v (s .current) h;
+        waiting = λ v h. handed-waits (listen r x) (t .account) (windowBits s′) v (s .current) h;
       })
 
   -- the hundredth miss
@@ -460,13 +464,13 @@ module _ (r : Receiver) (x : ComplexSample) (n : ℕ) (t : Tracked) where
       let r′ : Receiver = withClock (handed-over (listen r x) DlUnsynchronized) (R.searchOn (r .clock)) in
       let me = ap (λ (y : Lock). nextMisses type (y .misses)) (l .lock) in
       let a : dn (z +ℤ pos 400) ≡ 0 = above-zero (z +ℤ pos 400) (omega (arith, sum z (pos 400), s)) in
-      assemble (q .0 ∙ c) (one-window (q .1) (kind-slot (r .mode) (closeWindow (listen r x)) r′ (slotIn (t .account .number) (windowBits s′)) (l .mode) c (handed-is (r .slot) u (r .clock .currentSlot) (t .account .number) (windowBits s′) (s .current))))
+      assemble (q .0 ∙ c) (one-window (q .1) (kind-slot (r .mode) (closeWindow (listen r x)) r′ (slotIn (t .account) (windowBits s′)) (l .mode) c (handed-is (listen r x) (t .account) (windowBits s′) (s .current) u)))
       (turn-slot t n s′ false e (l .locked) (le-ltb (nextMisses type (t .account .misses)) 100 (omega (arith, leb-true 100 (nextMisses type (r .lock .misses)) f, me))))
       (record {
         timed = searching (record { mode = refl; unlocked = refl; above-zero = a; due = omega (arith, sum z (pos 400), s, a); least = omega arith; most = omega arith; begun = omega (arith, s) });
         signal = refl;
         windows = refl;
-        waiting = λ v h. handed-waits (r .waits) (r .slot) (r .clock .currentSlot) (t .account .number) (windowBits s′) v (s .current) h;
+        waiting = λ v h. handed-waits (listen r x) (t .account) (windowBits s′) v (s .current) h;
       })
 
   -- all together

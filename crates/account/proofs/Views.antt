@@ -21,7 +21,7 @@ use Rattle.burst_finder.specs.declared.TrainingSequence.the-variants.{NotFound,
 use Rattle.burst_finder.specs.Slots.{typeNumber, notFound, checkSlot, getBurst}
 use Rattle.burst_finder.proofs.Findings.{slot-judged, view-is, view-length}
 use Rattle.demodulator.specs.Signal.{Signal, timingOf, bitsOf}
-use Rattle.demodulator.specs.Receiver.{BurstView, HandedSlot, noView, viewOn, checked}
+use Rattle.demodulator.specs.Receiver.{BurstView, HandedSlot, withViews, noView, viewOn, checked}
 use Rattle.demodulator.specs.Valid.{isFound, validView, validSlot}
 
 -- ---- bits
@@ -104,12 +104,12 @@ pub record Views (h : HandedSlot) : Type 0 where
   pub subslot2 : validView (h .subslot2) ≡ h .subslot2
 
 pub valid-slot : (h : HandedSlot) → h .time < slots → Views h → validSlot h ≡ h
-unfolding validSlot
+unfolding withViews validSlot
 valid-slot h few v =
     let n : h .time % slots ≡ h .time = mod-eq-of-lt few in
-    λ i. record { time = n i; full = v .full i; subslot1 = v .subslot1 i; subslot2 = v .subslot2 i }
+    λ i. withViews h (n i) (v .full i) (v .subslot1 i) (v .subslot2 i)
 
 -- a slot's number as it is read is in range, whatever is stored
 pub valid-number : (h : HandedSlot) → validSlot h .time < slots
-unfolding validSlot
+unfolding withViews validSlot
 valid-number h = mod-lt (h .time) (omega arith)

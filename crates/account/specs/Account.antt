@@ -15,12 +15,12 @@ use Rattle.slotter.specs.Bursts.{syncBurst, normalBurst}
 use Rattle.demodulator.specs.declared.Mode.{Mode}
 use Rattle.demodulator.specs.declared.Mode.the-variants.{DlUnsynchronized, Dl}
 use Rattle.demodulator.specs.Signal.{windowBits}
-use Rattle.demodulator.specs.Receiver.{HandedSlot, noView}
+use Rattle.demodulator.specs.Receiver.{HandedSlot, withViews, noView}
 use Rattle.demodulator.specs.Windows.{Kind, quiet, lock, slot, Window}
 use Rattle.demodulator.specs.Calls.{Reply, refused, done, took, sampleRefusal, filled}
 use Rattle.account.specs.CallList as CallList
 use Rattle.account.specs.CallList.{Call, sample, follow, lent, outcome, after, answers, closed, lentAfter}
-use Rattle.account.specs.Rules.{Account, start, slotWith, nextMisses, Turn}
+use Rattle.account.specs.Rules.{Account, start, nextMisses, Turn}
 use Rattle.account.specs.Tracked.{signalOf, account}
 
 -- at every sample the account takes a turn that the rules allow
@@ -134,9 +134,9 @@ pub data Waiting : Type 0 where
 -- keeps its number unless such a window finds, which makes it 0."
 unfoldable pub changed : Kind → Waiting → Waiting
 changed quiet nothing = nothing
-changed quiet (waits h) = waits (slotWith (h .time) noView)
+changed quiet (waits h) = waits (withViews h (h .time) noView noView noView)
 changed lock nothing = nothing
-changed lock (waits h) = waits (slotWith 0 noView)
+changed lock (waits h) = waits (withViews h 0 noView noView noView)
 changed (slot h) w = waits h
 
 -- the last handed slot, changed by the search windows closed after it

@@ -26,12 +26,12 @@ unfoldable pub typeOf : List ℕ → ℕ
 typeOf bits = checked SlotType.Dl bits .type
 
 -- a downlink slot with this number and this view: nothing is found in its halves
-unfoldable pub slotWith : (number : ℕ) → BurstView → HandedSlot
-slotWith n v = record { time = n; full = v; subslot1 = noView; subslot2 = noView }
+unfoldable pub slotWith : Account → BurstView → HandedSlot
+slotWith a v = record { time = a .number; full = v; subslot1 = noView; subslot2 = noView }
 
 -- the slot of a locked window's bits: with the burst view of that type
-unfoldable pub slotIn : (number : ℕ) (bits : List ℕ) → HandedSlot
-slotIn n bits = slotWith n (checked SlotType.Dl bits)
+unfoldable pub slotIn : Account → (bits : List ℕ) → HandedSlot
+slotIn a bits = slotWith a (checked SlotType.Dl bits)
 
 -- "Type 0 is a miss; another type sets misses to 0."
 unfoldable pub nextMisses : (type misses : ℕ) → ℕ
@@ -60,7 +60,7 @@ handed a n bits kept gap =
       locked = kept;
       number = nextNumber (a .number);
       misses = nextMisses (typeOf bits) (a .misses);
-      windows = record { counter = n; kind = slot (slotIn (a .number) bits) } ∷ a .windows;
+      windows = record { counter = n; kind = slot (slotIn a bits) } ∷ a .windows;
     }
 
 -- from the account before the sample with the counter n, whose window, if one closes, has these bits, to the account after it

@@ -43,11 +43,15 @@ callsIn other kinds re im counters slot subslot1 subslot2 room =
     callsOf other kinds re im counters slot subslot1 subslot2
     (min room (fewest (length kinds) (length re) (length im) (length counters) (length slot) (length subslot1) (length subslot2)))
 
--- ════ what is written of each: 14 numbers, and 3,072 lent bytes
+-- ════ what is written of each: a row of numbers, and 3,072 lent bytes
+
+-- an answer's row
+abbrev pub rowLength : ℕ
+rowLength = 14
 
 -- how many calls there is room for in so many numbers and so many bytes
 unfoldable pub roomIn : (told lent : ℕ) → ℕ
-roomIn told lent = min (told / 14) (lent / 3072)
+roomIn told lent = min (told / rowLength) (lent / 3072)
 
 -- a view in numbers
 unfoldable pub viewRow : RxBurst → List ℕ
@@ -84,12 +88,12 @@ pub record Makes (r : Receiver) (c : Call) (r′ : Receiver) (told lent : List �
 -- lent were written, and what is behind them stayed
 pub record Written (cs : List Call) (r : Receiver) (told told′ lent lent′ : List ℕ) : Type 0 where
   pub receiver : r ≡ after cs
-  pub tells : told′ ≡ rows (answers cs) ++ drop (14 * length cs) told
+  pub tells : told′ ≡ rows (answers cs) ++ drop (rowLength * length cs) told
   pub lends : lent′ ≡ bytesOfAll (lentAfter cs) ++ drop (3072 * length cs) lent
 
 -- .. and where their accepted samples count 0, 1, 2 and on, what was written is what the account tells, and demand 3 holds throughout
 pub record Ran (cs : List Call) (r : Receiver) (told told′ lent lent′ : List ℕ) : Type 0 where
   pub written : Written cs r told told′ lent lent′
-  pub expected : Counted cs → told′ ≡ rows (expectedAll cs) ++ drop (14 * length cs) told
+  pub expected : Counted cs → told′ ≡ rows (expectedAll cs) ++ drop (rowLength * length cs) told
   pub filled : Counted cs → lent′ ≡ bytesOfAll (expectedLent cs) ++ drop (3072 * length cs) lent
   pub keeps : Counted cs → Throughout cs

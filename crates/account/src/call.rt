@@ -1,4 +1,5 @@
 // One call on a receiver. What it answers goes to a row of numbers, the bytes lent to it to a row of bytes.
+use crate::write::ROW;
 use crate::write::answer_row;
 use crate::write::sevens;
 use crate::write::take_row;
@@ -30,7 +31,7 @@ fn take(
     slot: usize,
     subslot1: usize,
     subslot2: usize,
-    told: &mut [u64; 14],
+    told: &mut [u64; ROW],
     lent: &mut [u8; 3072],
 ) -> Demodulator
     ensures { λ r. ⌜ Makes (viewOf receiver) (take (lentBytes slot) (lentBytes subslot1) (lentBytes subslot2)) (viewOf r) (now (told .exit)) (now (lent .exit)) ⌝ }
@@ -56,7 +57,7 @@ pub(crate) fn one_call(
     counter: i64,
     lengths: [usize; 3],
     other: Demodulator,
-    told: &mut [u64; 14],
+    told: &mut [u64; ROW],
     lent: &mut [u8; 3072],
 ) -> Demodulator
     ensures { λ r. ⌜ Makes (viewOf receiver) (callOf (viewOf other) kind input counter (getD lengths 0 0) (getD lengths 1 0) (getD lengths 2 0)) (viewOf r) (now (told .exit)) (now (lent .exit)) ⌝ }

@@ -8,6 +8,7 @@ use demodulator::Demodulator;
 use demodulator::Mode;
 use dsp_types::ComplexSample;
 use dsp_types::least;
+use write::ROW;
 use write::write_bytes;
 use write::write_numbers;
 ghost use Prim.Native.Nat.{min};
@@ -36,11 +37,11 @@ fn fewest(
 fn room(told: usize, lent: usize) -> usize
     ensures { λ r. ⌜ r ≡ roomIn told lent ⌝ }
 {
-    least(told / 14, lent / 3072)
+    least(told / ROW, lent / 3072)
 }
 
 // Makes calls in order on a new searching downlink receiver, as many as the shortest slice has and there is room for. Of each
-// it writes what it answered, 14 numbers, and the bytes lent to it, 1,024 for each of three slices.
+// it writes what it answered, a row of numbers, and the bytes lent to it, 1,024 for each of three slices.
 pub fn run_calls(
     kinds: &[u8],
     re: &[f32],
@@ -72,7 +73,7 @@ pub fn run_calls(
             im: im[i],
         };
         let lengths = [slot[i], subslot1[i], subslot2[i]];
-        let mut row = [0; 14];
+        let mut row = [0; ROW];
         let mut bytes = [0; 3072];
         receiver = one_call(
             receiver,
@@ -84,7 +85,7 @@ pub fn run_calls(
             &mut row,
             &mut bytes,
         );
-        write_numbers(&row, told, 14 * i);
+        write_numbers(&row, told, ROW * i);
         write_bytes(&bytes, lent, 3072 * i);
     }
     receiver

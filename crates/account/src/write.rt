@@ -10,6 +10,9 @@ ghost use lib.ListN.{length, take, drop};
 ghost use Rattle.demodulator.specs.Calls.{took, padded, replyOf, takeReplyOf, inNumbers};
 ghost use Rattle.account.specs.Runs.{lentBytes, rowOf};
 
+// How many numbers tell an answer.
+pub(crate) const ROW: usize = 14;
+
 // A slice to lend, in 1,024 bytes: so many sevens, zeros behind them.
 pub(crate) fn sevens(n: usize) -> [u8; 1024]
     ensures { λ r. ⌜ r ≡ padded 1024 (lentBytes n) ⌝ }
@@ -21,7 +24,7 @@ pub(crate) fn sevens(n: usize) -> [u8; 1024]
     bytes
 }
 
-pub(crate) fn answer_row(answer: Answer) -> [u64; 14]
+pub(crate) fn answer_row(answer: Answer) -> [u64; ROW]
     ensures { λ r. ⌜ r ≡ rowOf (inNumbers (replyOf answer)) ⌝ }
 {
     match answer {
@@ -30,7 +33,7 @@ pub(crate) fn answer_row(answer: Answer) -> [u64; 14]
     }
 }
 
-fn slot_row(slot: RxSlot) -> [u64; 14]
+fn slot_row(slot: RxSlot) -> [u64; ROW]
     ensures { λ r. ⌜ r ≡ rowOf (took slot) ⌝ }
 {
     [
@@ -51,7 +54,7 @@ fn slot_row(slot: RxSlot) -> [u64; 14]
     ]
 }
 
-pub(crate) fn take_row(answer: TakeAnswer) -> [u64; 14]
+pub(crate) fn take_row(answer: TakeAnswer) -> [u64; ROW]
     ensures { λ r. ⌜ r ≡ rowOf (takeReplyOf answer) ⌝ }
 {
     match answer {

@@ -17,7 +17,7 @@ use Rattle.burst_finder.specs.Slots.{mostErrors, getBurst}
 use Rattle.demodulator.specs.declared.Mode.{Mode}
 use Rattle.demodulator.specs.declared.Mode.the-variants.{Idle, DlUnsynchronized, Dl, Ul}
 use Rattle.demodulator.specs.declared.RxBurst.{RxBurst}
-use Rattle.demodulator.specs.Receiver.{HandedSlot, Receiver, withMode, withClock, noView}
+use Rattle.demodulator.specs.Receiver.{HandedSlot, Receiver, withViews, withMode, withClock, noView}
 use Rattle.demodulator.specs.Valid.{isFound, validView, validSlot}
 use Rattle.demodulator.specs.Calls.{padded, filled, burstShown, shown, takeRefusal, followRefusal, slotWhen, following}
 use Rattle.demodulator.specs.View.{modeOf, modeFollowing, storedView}
@@ -119,12 +119,12 @@ module _ (h : HandedSlot) where
   pub slot-told : (time : ℕ) (full first second : RxBurst) → time ≡ h .time % slots → full ≡ burstShown (validView (h .full))
       → first ≡ burstShown (validView (h .subslot1)) → second ≡ burstShown (validView (h .subslot2))
       → record { time = record { 0 = time }; full = full; subslot1 = first; subslot2 = second } ≡ shown (validSlot h)
-  unfolding shown validSlot
+  unfolding shown withViews validSlot
   slot-told time full first second t a b c = rw (t, a, b, c)
 
   pub slot-filled : (slot first second : List ℕ) → slot ≡ padded 510 (validView (h .full) .bits) → first ≡ padded 254 (validView (h .subslot1) .bits)
       → second ≡ padded 254 (validView (h .subslot2) .bits) → slot ∷ first ∷ second ∷ [] ≡ filled (validSlot h)
-  unfolding filled validSlot
+  unfolding filled withViews validSlot
   slot-filled slot first second a b c = rw (a, b, c)
 
 -- an answered take has slices of the right lengths

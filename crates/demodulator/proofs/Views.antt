@@ -6,7 +6,7 @@ use Prim.Native.Nat.{ℕ, zero, suc, _+_, _*_, _≤_, _<_}
 use native.Mathlib.Omega.{arith}
 use native.Mathlib.Numerals.{add-one}
 use lib.ListN.{take}
-use lib.IntN.{ℤ, pos, _+ℤ_, _-ℤ_}
+use lib.IntN.{ℤ, pos, negsuc, _+ℤ_, _-ℤ_}
 use lib.Ieee.{Float, binary32, add, sub}
 use borrow.Author.Tests.{le-leb, lt-leb, ne-eqb}
 use Rattle.dsp_types.specs.Samples.{zeroF}
@@ -90,19 +90,19 @@ module _ (r : Receiver) (w : Window) (read : Reads (r .signal) 1024 256 w) (b : 
   unfolding processPastSamples searchWindow notFoundYet
   search-missed h = rw (lt-leb (all .dist) 1 (below-far 1 b all there h))
 
-  pub search-found : (m : Mode) (z : ℤ) (e : Float) → b .dist ≤ 1 → m ≡ DlUnsynchronized
+  pub search-found : (m : Mode) (z : ℤ) (e : Float) (time n : ℕ) → time ≡ slotOf (pos 0) → n ≡ slotOf (negsuc 0) → b .dist ≤ 1 → m ≡ DlUnsynchronized
       → z ≡ r .clock .slotReadyTime -ℤ pos 2034 +ℤ pos (b .pos * 2) → e ≡ averagedOf zeroF (w .timing)
-      → withMode (withClock (withLock (withSlot r (emptied (r .slot) 0)) (record { timingError = e; misses = 0 })) (setSlot m z 283115519)) Dl
+      → withMode (withClock (withLock (withSlot r (emptied (r .slot) time)) (record { timingError = e; misses = 0 })) (setSlot m z n)) Dl
       ≡ processPastSamples DlUnsynchronized r
   unfolding processPastSamples searchWindow found slotOf slotTiming
-  search-found m z e h p q t =
-      rw (← best h, le-leb (b .dist) 1 h, found-reference (r .clock .slotReadyTime) b (rw (best h) (sync-placed (r .signal))), p, q, t, read .timing)
+  search-found m z e time n f g h p q t =
+      rw (f, g, ← best h, le-leb (b .dist) 1 h, found-reference (r .clock .slotReadyTime) b (rw (best h) (sync-placed (r .signal))), p, q, t, read .timing)
 
 -- ---- a slot that is handed over
 
 pub handed-over : (r : Receiver) (w : Window) (v : BurstView) (type : ℕ) → Reads (r .signal) 1024 256 w → v ≡ checked SlotType.Dl (take 510 (w .bits))
     → type ≡ checked SlotType.Dl (take 510 (w .bits)) .type → (m : Mode) (l : Lock) → l ≡ lockAfter (r .lock) (w .timing) type → m ≡ modeAfter (l .misses)
-    → handOver (withMode (withLock r l) m) (downlinkSlot (r .slot) (r .clock .currentSlot) v) ≡ processPastSamples Dl r
+    → handOver (withMode (withLock r l) m) (downlinkSlot r v) ≡ processPastSamples Dl r
 unfolding processPastSamples downlinkWindow slotTiming
 handed-over r w v type read f g m l p q = rw (q, p, g, f, read .bits, read .timing)
 

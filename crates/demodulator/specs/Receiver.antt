@@ -43,6 +43,10 @@ pub record HandedSlot : Type 0 where
   pub subslot1 : BurstView
   pub subslot2 : BurstView
 
+-- a slot with its number and its views anew, and all else as it was
+unfoldable pub withViews : HandedSlot → ℕ → (full subslot1 subslot2 : BurstView) → HandedSlot
+withViews h n v v1 v2 = record { time = n; full = v; subslot1 = v1; subslot2 = v2 }
+
 -- how good the lock is: the averaged timing error, and handed slots in a row without a training sequence
 pub record Lock : Type 0 where
   pub timingError : Float
@@ -141,7 +145,7 @@ new m =
 
 -- a search window empties the view of the full slot, also of one that waits
 unfoldable pub emptied : HandedSlot → ℕ → HandedSlot
-emptied h time = record { time = time; full = noView; subslot1 = h .subslot1; subslot2 = h .subslot2 }
+emptied h time = withViews h time noView (h .subslot1) (h .subslot2)
 
 -- the reference time at a find with the sequence's first bit at 216 + place: one slot before the burst found began, by the source's
 -- own comment "so that this burst will get demodulated in slot number 0". The catch-up skips that slot: 01 has the burst as slot 1
@@ -178,11 +182,11 @@ lockAfter l timing (suc type) = record { timingError = averagedOf (l .timingErro
 unfoldable pub modeAfter : ℕ → Mode
 modeAfter misses = cond (leb 100 misses) DlUnsynchronized Dl
 
-unfoldable pub downlinkSlot : HandedSlot → ℕ → BurstView → HandedSlot
-downlinkSlot h time v = record { time = time; full = v; subslot1 = h .subslot1; subslot2 = h .subslot2 }
+unfoldable pub downlinkSlot : Receiver → BurstView → HandedSlot
+downlinkSlot r v = record { time = r .clock .currentSlot; full = v; subslot1 = r .slot .subslot1; subslot2 = r .slot .subslot2 }
 
 unfoldable pub downlinkWindow : BurstView → Lock → Receiver → Receiver
-downlinkWindow v l r = handOver (withMode (withLock r l) (modeAfter (l .misses))) (downlinkSlot (r .slot) (r .clock .currentSlot) v)
+downlinkWindow v l r = handOver (withMode (withLock r l) (modeAfter (l .misses))) (downlinkSlot r v)
 
 -- Ul: slot numbers are 2 less, wrapping; a full window and one for each half
 unfoldable pub uplinkSlot : ℕ → Signal → HandedSlot

@@ -10,7 +10,7 @@ use lib.ListN.{length}
 use Rattle.dsp_types.specs.Refusals.{counters}
 use Rattle.dsp_types.specs.Times.{slots}
 use Rattle.burst_finder.specs.Slots.{mostErrors}
-use Rattle.demodulator.specs.Receiver.{Clock, Lock, BurstView, HandedSlot, Receiver, withClock, withLock, withNext, noView}
+use Rattle.demodulator.specs.Receiver.{Clock, Lock, BurstView, HandedSlot, Receiver, withViews, withClock, withLock, withNext, noView}
 
 -- how far from 0 a reference time and a ready time may be, and the last counter that may be expected, which is one after the last
 abbrev pub farReference : ℕ
@@ -58,4 +58,4 @@ unfoldable pub validView : BurstView → BurstView
 validView v = cond (isFound v) (record { type = v .type; errors = v .errors; place = v .place; bits = map (λ b. b % 2) (v .bits) }) noView
 
 unfoldable pub validSlot : HandedSlot → HandedSlot
-validSlot h = record { time = h .time % slots; full = validView (h .full); subslot1 = validView (h .subslot1); subslot2 = validView (h .subslot2) }
+validSlot h = withViews h (h .time % slots) (validView (h .full)) (validView (h .subslot1)) (validView (h .subslot2))

@@ -49,9 +49,10 @@ impl State {
         let mode = number(initial_mode);
         let empty = no_burst();
         let line = FirComplexSym::new();
-        let ready = ready_time(mode, SampleCount(0), TdmaTime(0));
+        let first = TdmaTime::default();
+        let ready = ready_time(mode, SampleCount(0), first);
         let slot = RxSlot {
-            time: TdmaTime(0),
+            time: first,
             full: empty,
             subslot1: empty,
             subslot2: empty,
@@ -61,7 +62,7 @@ impl State {
             reference_time: SampleCount(0),
             // The ready time is that of slot 0.
             slot_ready_time: ready,
-            current_slot: TdmaTime(0),
+            current_slot: first,
             next_input_sample_count: SampleCount(0),
             averaged_timing_error: 0.0,
             slots_since_last_valid_burst: 0,

@@ -115,12 +115,12 @@ impl State {
         let full = take_burst(last.full, &full_bits, slot);
         let first = take_burst(last.subslot1, &bits1[..254], subslot1);
         let second = take_burst(last.subslot2, &bits2[..254], subslot2);
-        let taken = RxSlot {
-            time: TdmaTime(last.time.to_int()),
-            full,
-            subslot1: first,
-            subslot2: second,
-        };
+        let time = TdmaTime(last.time.to_int());
+        let mut taken = last;
+        taken.time = time;
+        taken.full = full;
+        taken.subslot1 = first;
+        taken.subslot2 = second;
         let mut state = self;
         state.demodulated_slot_available = false;
         StateTaken {

@@ -9,7 +9,6 @@ use crate::sums::plus;
 use burst_finder::Finding;
 use burst_finder::MAX_ERRS;
 use burst_finder::SlotType;
-use dsp_types::LAST_SLOT;
 use dsp_types::SampleCount;
 use dsp_types::TdmaTime;
 ghost use mathlib.Core.Path.{_≡_};
@@ -24,6 +23,11 @@ ghost use Rattle.demodulator.specs.Receiver.{withSlot, viewOn, checked, 
 ghost use Rattle.demodulator.specs.Windows.{isSlot, kindOf};
 ghost use Rattle.demodulator.specs.View.{modeOf, storedView, receiverOf, signalFrom, Reads, IsWindow};
 ghost use Rattle.demodulator.specs.Bounds.{Within, Timed, Closing};
+
+// The slot that is current at a find is the one before slot 0.
+const FIRST_SLOT: i32 = 0;
+
+const SLOT_AT_FIND: i32 = FIRST_SLOT - 1;
 
 // A state, and whether a slot was handed over on the way to it.
 pub(crate) struct Heard {
@@ -101,16 +105,10 @@ impl State {
     fn emptied(self, time: TdmaTime) -> State
         ensures { λ r. ⌜ ((re im abs : List Float) → receiverOf r re im abs ≡ withSlot (receiverOf self re im abs) (emptied (receiverOf self re im abs .slot) (time .0))) ⌝ }
     {
-        let last = self.demodulated_slot;
         let full = no_burst();
-        let first = last.subslot1;
-        let second = last.subslot2;
-        let slot = RxSlot {
-            time,
-            full,
-            subslot1: first,
-            subslot2: second,
-        };
+        let mut slot = self.demodulated_slot;
+        slot.time = time;
+        slot.full = full;
         let mut d = self;
         d.demodulated_slot = slot;
         d
@@ -134,11 +132,11 @@ impl State {
         }
         // The step to the next slot makes the current one 0, and the next sample skips that: the burst found is slot 1.
         let reference = found_time(self.slot_ready_time, found.pos);
-        let mut d = self.emptied(TdmaTime(0));
+        let mut d = self.emptied(TdmaTime::from_int(FIRST_SLOT));
         d.reference_time = reference;
         d.averaged_timing_error = averaged(0.0, w.timing);
         d.slots_since_last_valid_burst = 0;
-        let mut locked = d.set_slot(TdmaTime(LAST_SLOT));
+        let mut locked = d.set_slot(TdmaTime::from_int(SLOT_AT_FIND));
         locked.mode = 2;
         locked
     }

@@ -31,7 +31,7 @@ checked c = c .before .before .before .before .before
 -- what the three ways share
 handed-as : (c : tie.After-checked-burst) (m : Mode) (l : Lock)
     → l ≡ lockAfter (receiver c .lock) (c .before .before .read-window .result .timing) (c .checked-burst .result .«train_type») → m ≡ modeAfter (l .misses)
-    → handOver (withMode (withLock (receiver c) l) m) (downlinkSlot (receiver c .slot) (receiver c .clock .currentSlot) (view c)) ≡ processPastSamples Dl (receiver c)
+    → handOver (withMode (withLock (receiver c) l) m) (downlinkSlot (receiver c) (view c)) ≡ processPastSamples Dl (receiver c)
 handed-as c =
     handed-over (receiver c) (c .before .before .read-window .result) (view c) (c .checked-burst .result .«train_type») (heard (self c) (start c .args .re .now) (start c .args .im .now) (start c .args .abs .now) (c .before .before .read-window .ensures)) (c .checked-burst .ensures .1) (c .checked-burst .ensures .0)
 

@@ -22,17 +22,21 @@ no-burst-requires c κs = search needs
 new-requires : tie.Need-new-requires
 new-requires c κs = search needs
 
+default-requires : tie.Need-default-requires
+default-requires c κs = search needs
+
 ready-time-requires : tie.Need-ready-time-requires
-ready-time-requires c κs = (within-pos (2 ^ 40) (lit≤ tt), lit< tt)
+ready-time-requires c κs = rw (c .default .ensures) (within-pos (2 ^ 40) (lit≤ tt), lit< tt)
 
 returns : tie.Need-returns
 unfolding receiverOf new setSlot noSlot quiet signalFrom
 returns c =
-    let n = c .before .before .before in
-    let b = no-stored (c .before .before .no-burst .ensures) in
+    let d = c .before in
+    let n = d .before .before .before in
+    let b = no-stored (d .before .before .no-burst .ensures) in
     let m : modeOf (n .number .result) ≡ n .before .args .initial-mode = ap modeOf (n .number .ensures) ∙ mode-stored (n .before .args .initial-mode) in
-    (rw (c .ready-time .ensures, m, b 510 (replicate 510 0), b 254 (replicate 510 0), c .before .new .ensures, zeros-samples, zeros-held), n .number .ensures)
+    (rw (c .ready-time .ensures, d .default .ensures, m, b 510 (replicate 510 0), b 254 (replicate 510 0), d .before .new .ensures, zeros-samples, zeros-held), n .number .ensures)
 
 pub new-spec : {M : Type 1} → statement M
 new-spec =
-    tie.close (tie.spec number-requires no-burst-requires new-requires ready-time-requires returns)
+    tie.close (tie.spec number-requires no-burst-requires new-requires default-requires ready-time-requires returns)

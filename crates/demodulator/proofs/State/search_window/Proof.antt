@@ -3,6 +3,7 @@ use mathlib.Core.Path.{_≡_, ap, _∙_}
 use Prim.Native.Nat.{_≤_, _^_}
 use native.Mathlib.Omega.{arith}
 use lib.Dec.{lit≤, lit<}
+use lib.IntN.{negsuc}
 use lib.ListN.{take, length}
 use lib.Seq.{take-all}
 use Rattle.burst_finder.specs.Search.{findSync, below}
@@ -11,7 +12,7 @@ use Rattle.demodulator.specs.declared.window.Window.{Window}
 use Rattle.demodulator.specs.Receiver.{Receiver, withMode, withClock, withLock, withSlot, setSlot}
 use Rattle.demodulator.specs.View.{receiverOf, modeOf, Reads, IsWindow}
 use Rattle.demodulator.specs.declared.Mode.the-variants.{Dl}
-use Rattle.demodulator.proofs.Signed.{wider}
+use Rattle.demodulator.proofs.Signed.{wider, slot-number}
 use Rattle.demodulator.proofs.Times.{found-within}
 use Rattle.demodulator.proofs.Views.{heard, mode-search, found-place, search-missed, search-found}
 use borrow.Author.Needs.{needs}
@@ -68,30 +69,42 @@ found-time-requires c κs =
     let a = c .before .before in
     (start a .pre .0 .ready, place a (c .if1 .left))
 
+from-int-requires : tie.Need-from-int-requires
+from-int-requires c κs = search needs
+
 emptied-requires-2 : tie.Need-emptied-requires-2
 emptied-requires-2 c κs = search needs
 
 averaged-requires : tie.Need-averaged-requires
 averaged-requires c κs = search needs
 
+from-int-requires-2 : tie.Need-from-int-requires-2
+from-int-requires-2 c κs = search needs
+
+abbrev timed : tie.After-averaged → tie.After-found-time
+timed c = c .before .before .before
+
 set-slot-requires : tie.Need-set-slot-requires
 unfolding receiverOf
 set-slot-requires c κs =
-    let f = c .before .before in
+    let f = timed (c .before) in
     let a = f .before .before .before in
-    rw (f .found-time .ensures) (wider (2 ^ 40) (lit≤ tt) (found-within (self a .«slot_ready_time» .0) (a .find-sync .result .pos) (start a .pre .0 .ready) (place a (f .before .if1 .left))), lit< tt)
+    rw (f .found-time .ensures, c .from-int2 .ensures)
+    (wider (2 ^ 40) (lit≤ tt) (found-within (self a .«slot_ready_time» .0) (a .find-sync .result .pos) (start a .pre .0 .ready) (place a (f .before .if1 .left))), slot-number (negsuc 0))
 
 returns-2 : tie.Need-returns-2
 unfolding receiverOf withMode withClock withLock withSlot modeOf
 returns-2 c =
-    let f = c .before .before .before in
+    let i = c .before in
+    let v = i .before in
+    let f = timed v in
     let a = f .before .before .before in
     let s = start a .args in
-    let e = c .before .averaged .result in
+    let e = v .averaged .result in
     let z = f .found-time .result .0 in
     ap (λ (r : Receiver). withMode r Dl) (c .set-slot .ensures (s .re .now) (s .im .now) (s .abs .now))
-    ∙ ap (λ (r : Receiver). withMode (withClock (withLock r (record { timingError = e; misses = 0 })) (setSlot (r .mode) z 283115519)) Dl) (c .before .before .emptied2 .ensures (s .re .now) (s .im .now) (s .abs .now))
-    ∙ search-found (receiver a) (window a) (window-read a) (a .find-sync .result) (searched a) (modeOf (self a .mode)) z e (f .before .if1 .left) (mode-search (self a .mode) (start a .pre .1)) (f .found-time .ensures) (c .before .averaged .ensures)
+    ∙ ap (λ (r : Receiver). withMode (withClock (withLock r (record { timingError = e; misses = 0 })) (setSlot (r .mode) z (i .from-int2 .result .0))) Dl) (v .before .emptied2 .ensures (s .re .now) (s .im .now) (s .abs .now))
+    ∙ search-found (receiver a) (window a) (window-read a) (a .find-sync .result) (searched a) (modeOf (self a .mode)) z e _ _ (v .before .before .from-int .ensures) (i .from-int2 .ensures) (f .before .if1 .left) (mode-search (self a .mode) (start a .pre .1)) (f .found-time .ensures) (v .averaged .ensures)
 
 pub search-window-spec : {M : Type 1} → statement M
 search-window-spec =
@@ -103,7 +116,9 @@ search-window-spec =
     emptied-requires
     returns
     found-time-requires
+    from-int-requires
     emptied-requires-2
     averaged-requires
+    from-int-requires-2
     set-slot-requires
     returns-2)
