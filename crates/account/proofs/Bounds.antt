@@ -12,6 +12,7 @@ use lib.Signed.{ltZ}
 use lib.Dec.{leb, ltb}
 use lib.Ieee.{Float}
 use borrow.Author.Tests.{le-leb, leb-false, ltb-false, eqb-true}
+use Rattle.dsp_types.proofs.Laws.{slot-below}
 use Rattle.dsp_types.specs.declared.ComplexSample.{ComplexSample}
 use Rattle.dsp_types.specs.Ints.{up, dn, eqZ}
 use Rattle.dsp_types.proofs.IntLaws.{sum, less, same, ltZ-no}
@@ -32,7 +33,7 @@ use Rattle.account.proofs.Laws.{Placed, placed}
 use Rattle.account.proofs.Times.{ready-parts, found-parts}
 use Rattle.account.proofs.Views.{Views, none-valid, valid-slot}
 use Rattle.account.proofs.Simulation.{shifted, shifted-parts, gap-span, advanced, advances}
-use Rattle.account.proofs.Numbers.{slot-below, accept-step}
+use Rattle.account.proofs.Numbers.{accept-step}
 
 -- ---- what a receiver that expects the counter n is bounded by
 

@@ -8,9 +8,10 @@ use Prim.Native.Nat.{ℕ, zero, suc, _<_}
 use native.Mathlib.Nat.{mod-lt}
 use native.Mathlib.Omega.{arith}
 use lib.IntN.{ℤ, pos, negsuc, natAbs, _+ℤ_, _-ℤ_}
+use Rattle.dsp_types.proofs.Laws.{slot-below}
 use Rattle.dsp_types.specs.declared.ComplexSample.{ComplexSample}
 use Rattle.dsp_types.specs.Samples.{silence}
-use Rattle.dsp_types.specs.Times.{slots, slotOf}
+use Rattle.dsp_types.specs.Times.{slots}
 use Rattle.burst_finder.specs.declared.SlotType.the-variants as SlotType
 use Rattle.demodulator.specs.Receiver as R
 use Rattle.demodulator.specs.declared.Mode.{Mode}
@@ -25,11 +26,6 @@ use Rattle.demodulator.specs.Feed.{Block, fedOne, fedBy, feedOf}
 use Rattle.account.specs.Numbers.{Numbered}
 use Rattle.account.proofs.Simulation.{advanced, advances}
 use Rattle.account.proofs.Views.{Views, none-valid, window-valid, valid-number}
-
-pub slot-below : (z : ℤ) → slotOf z < slots
-unfolding slotOf
-slot-below (pos n) = mod-lt n (omega arith)
-slot-below (negsuc n) = omega arith
 
 -- ---- from r to r′, closing the windows ws
 pub record Step (r r′ : Receiver) (ws : List Window) : Type 0 where

@@ -10,12 +10,12 @@ use lib.IntN.{ℤ, pos, negsuc, _+ℤ_, _-ℤ_}
 use lib.Dec.{ltb, leb, eqb}
 use lib.Ieee.{Float, binary32, sub}
 use borrow.Author.Tests.{eqb-true, eqb-false, ne-eqb, lt-ltb, le-ltb, leb-true, leb-false}
+use Rattle.dsp_types.specs.Samples.{oneF}
 use Rattle.dsp_types.specs.Refusals.{counters}
 use Rattle.dsp_types.specs.declared.ComplexSample.{ComplexSample}
 use Rattle.dsp_types.specs.Ints.{up, dn, eqZ}
 use Rattle.dsp_types.proofs.IntLaws.{sum, above-zero}
 use Rattle.dsp_types.specs.Times.{slots, slotOf}
-use Rattle.timing.specs.Floats.{oneF}
 use Rattle.timing.specs.Tracking.{late, early, loweredOf, settledOf}
 use Rattle.burst_finder.specs.declared.SlotType.the-variants as SlotType
 use Rattle.burst_finder.specs.Search.{findSync}

@@ -1,13 +1,13 @@
 -- The receiver's integer arithmetic, each place once, as facts that `omega` reads.
 use mathlib.Core.Path.{_≡_, refl, ap, _∙_}
 use mathlib.Core.Bool.{true, false}
-use Prim.Native.Nat.{ℕ, zero, suc, _+_, _-_, _*_, _/_, _≤_, _<_}
+use Prim.Native.Nat.{ℕ, zero, suc, _+_, _*_, _≤_, _<_}
 use native.Mathlib.Omega.{arith}
 use native.Mathlib.Nat.{mod-eq-of-lt, div-eq-of-lt}
-use lib.IntN.{ℤ, pos, negsuc, negℤ, _+ℤ_, _-ℤ_, _*ℤ_}
-use lib.Signed.{quotZ}
+use lib.IntN.{ℤ, pos, negsuc, negℤ, _+ℤ_, _-ℤ_}
+use Rattle.demodulator.proofs.Times.{found-half}
 use Rattle.dsp_types.specs.Ints.{up, dn, eqZ}
-use Rattle.dsp_types.proofs.IntLaws.{sum, less, same, ltZ-yes, ltZ-no, eqZ-yes, eqZ-no, up-neg, dn-neg}
+use Rattle.dsp_types.proofs.IntLaws.{sum, less, same, ltZ-yes, ltZ-no, eqZ-yes, eqZ-no}
 use Rattle.dsp_types.specs.Times.{slots, slotOf, divEuclid, divisor}
 use Rattle.demodulator.specs.Receiver.{far, slotsToSkip, foundTime, missing}
 
@@ -62,21 +62,8 @@ unfolding slotOf
 first-slot = refl
 
 -- the reference time at a find, from the ready time z: the place, from bit 216 on, is even and at most 256
-found-half : (z : ℤ) (half : ℕ) → half ≤ 128
-    → up (z -ℤ pos 1018 +ℤ quotZ (pos (2 * half + 2) -ℤ pos 510) (pos 2) *ℤ pos 4) + 2034 + dn z
-    ≡ dn (z -ℤ pos 1018 +ℤ quotZ (pos (2 * half + 2) -ℤ pos 510) (pos 2) *ℤ pos 4) + up z + 4 * half
-found-half z half k =
-    rw (below, halved)
-    (let w : ℤ = negℤ (pos (suc (253 - half) * 4)) in
-    omega (arith, sum (z -ℤ pos 1018) w, less z (pos 1018), up-neg (pos (suc (253 - half) * 4)), dn-neg (pos (suc (253 - half) * 4))))
-  where
-    below : pos (2 * half + 2) -ℤ pos 510 ≡ negsuc (507 - 2 * half)
-    below = same (pos (2 * half + 2) -ℤ pos 510) (negsuc (507 - 2 * half)) (omega (arith, less (pos (2 * half + 2)) (pos 510)))
-
-    halved : suc (507 - 2 * half) / 2 ≡ suc (253 - half)
-    halved = omega arith
-
 pub found-parts : (z : ℤ) (place half : ℕ) → place ≡ 2 * half → half ≤ 128
     → up (foundTime z place) + 2034 + dn z ≡ dn (foundTime z place) + up z + 4 * half
 unfolding foundTime
-found-parts z place half e k = rw e (found-half z half k)
+found-parts z place half e k =
+    rw (e, found-half z half k) (omega (arith, sum (z -ℤ pos 2034) (pos (2 * half * 2)), less z (pos 2034)))

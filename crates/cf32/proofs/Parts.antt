@@ -1,6 +1,6 @@
 -- Patterns of NaN, and one turn of each loop. Assumes nothing.
 use mathlib.Core.Path.{_≡_, refl, sym, ap, subst, _∙_}
-use mathlib.Core.Bool.{true, false, not}
+use mathlib.Core.Bool.{true}
 use lib.Dec.{T}
 use mathlib.Core.List.{List, [], _∷_, _++_}
 use Prim.Native.Nat.{ℕ, zero, suc, _+_, _*_, _/_, _%_, _<_, _≤_}
@@ -15,12 +15,6 @@ use borrow.Author.Tests.{lt-ltb}
 use Rattle.cf32.specs.Parts.{wordOf, partsIn, wordBytes, bytesOf}
 
 -- ---- NaN
-
-pub not-nan : (x : Float) → ne x x ≡ false → T (not (isNan x))
-unfolding ne isNan
-not-nan nan e = subst T e tt
-not-nan (inf s) e = tt
-not-nan (fin s m e′) e = tt
 
 only-nan : (x : Float) → isNan x ≡ true → nan ≡ x
 unfolding isNan

@@ -8,6 +8,7 @@ use lib.Dec.{leb, lit<}
 use lib.IntN.{ℤ, pos, negsuc, _-ℤ_}
 use lib.Signed.{mag, ltZ}
 use borrow.Author.Tests.{leb-true, ltb-false}
+use Rattle.demodulator.proofs.Times.{timed-longer}
 use Rattle.dsp_types.specs.declared.ComplexSample.{ComplexSample}
 use Rattle.dsp_types.specs.Refusals.{beyond, outOfCount, counters, lastCounter}
 use Rattle.dsp_types.specs.Ints.{up, dn}
@@ -19,7 +20,7 @@ use Rattle.demodulator.specs.Valid.{farReference, farReady, validTime, v
 use Rattle.demodulator.specs.Calls.{sampleRefusal}
 use Rattle.demodulator.specs.Bounds.{Within, Timed, Counter}
 use Rattle.demodulator.proofs.Samples.{counter-before}
-use Rattle.demodulator.proofs.Steps.{sample-timed, timed-longer}
+use Rattle.demodulator.proofs.Steps.{sample-timed}
 
 pub valid-within : (most : ℕ) (z : ℤ) → Within (most + 1) (validTime most z)
 unfolding validTime

@@ -8,6 +8,7 @@ use native.Mathlib.Omega.{arith}
 use lib.ListN.{length}
 use lib.IntN.{ℤ, pos, negsuc, _+ℤ_, _-ℤ_}
 use lib.Signed.{ltZ, mag}
+use Rattle.dsp_types.proofs.Laws.{out-of-count}
 use Rattle.dsp_types.specs.declared.ComplexSample.{ComplexSample}
 use Rattle.dsp_types.specs.Ints.{up, dn, eqZ}
 use Rattle.dsp_types.proofs.IntLaws.{sum, less, same, parts, ltZ-no, ltZ-false, eqZ-no}
@@ -22,7 +23,6 @@ use Rattle.demodulator.specs.Valid.{validTime, validClock, validLock, va
 use Rattle.demodulator.specs.Calls.{sampleRefusal}
 use Rattle.demodulator.specs.Feed.{Block, feedOf}
 use Rattle.demodulator.specs.Quiet.{hearAll, keepAll, magnitudesOf, anyBeyond, Quiet}
-use Rattle.demodulator.proofs.Samples.{out-of-count}
 use Rattle.demodulator.proofs.Feeding.{ahead, at-next}
 use Rattle.demodulator.proofs.Signed.{eqZ-true}
 

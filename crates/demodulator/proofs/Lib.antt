@@ -2,7 +2,7 @@ mod Signed
 mod Samples
 mod Reading
 mod Views
-mod Times
+pub mod Times
 mod Steps
 mod Doors
 mod Taking

@@ -8,6 +8,7 @@ use native.Mathlib.Numerals.{add-one}
 use lib.ListN.{length, take, drop, set, getD}
 use lib.Seq.{append-snoc, take-all, take-at}
 use lib.Ieee.{Float, nan}
+use Rattle.fir.proofs.Laws.{length-outs, samples-parts}
 use Rattle.dsp_types.specs.declared.ComplexSample.{ComplexSample}
 use Rattle.dsp_types.specs.Refusals.{beyond}
 use Rattle.fir.specs.Fir.{lineAfter, outsOf, samplesOf, blockOf, startWith, reOf, imOf}
@@ -99,11 +100,6 @@ whole-block re im outRe outIm e l a b =
     let m : min 1024 (min (length outRe) (length outIm)) ≡ 512 = omega arith in
     rw m (take-all 512 (samplesOf re im) (omega (arith, samples-long re im e)))
 
-outs-long : (line xs : List ComplexSample) → length (outsOf line xs) ≡ length xs
-unfolding outsOf
-outs-long line [] = refl
-outs-long line (x ∷ xs) = ap suc (outs-long (take 32 (x ∷ line)) xs)
-
 re-long : (ys : List ComplexSample) → length (reOf ys) ≡ length ys
 re-long [] = refl
 re-long (y ∷ ys) = ap suc (re-long ys)
@@ -112,18 +108,13 @@ im-long : (ys : List ComplexSample) → length (imOf ys) ≡ length ys
 im-long [] = refl
 im-long (y ∷ ys) = ap suc (im-long ys)
 
-parts-of : (ys : List ComplexSample) → samplesOf (reOf ys) (imOf ys) ≡ ys
-unfolding samplesOf
-parts-of [] = refl
-parts-of (y ∷ ys) = ap (λ (t : List ComplexSample). y ∷ t) (parts-of ys)
-
 -- what a block writes, read back
 module _ (line : List ComplexSample) (re im : List Float) (n : ℕ) (u : length re ≡ n) (v : length im ≡ n) where
   abbrev ys : List ComplexSample
   ys = outsOf line (samplesOf re im)
 
   long : length ys ≡ n
-  long = outs-long line (samplesOf re im) ∙ samples-long re im (omega arith) ∙ u
+  long = length-outs line (samplesOf re im) ∙ samples-long re im (omega arith) ∙ u
 
   pub re-count : length (reOf ys) ≡ n
   re-count = re-long ys ∙ long
@@ -148,7 +139,7 @@ module _ (line : List ComplexSample) (re im : List Float) (n : ℕ) (u : length 
   im-out out out′ e = rw e (take-at (imOf ys) (drop (length (imOf ys)) out) n (im-long ys ∙ long))
 
   pub abs-out : (r i m : List Float) → r ≡ reOf ys → i ≡ imOf ys → m ≡ magnitudesOf (samplesOf r i) → m ≡ magnitudesOf ys
-  abs-out r i m a b e = e ∙ rw (a, b) (ap magnitudesOf (parts-of ys))
+  abs-out r i m a b e = e ∙ rw (a, b) (ap magnitudesOf (samples-parts ys))
 
 -- ---- the signal after a block
 

@@ -1,23 +1,15 @@
 -- The tests and counts of a sample, over plain numbers. Assumes nothing.
 use mathlib.Core.Path.{_≡_, refl, sym}
-use mathlib.Core.Bool.{_||_}
 use Prim.Native.Nat.{ℕ, zero, suc, _+_, _-_, _<_, _≤_}
 use native.Mathlib.Nat.{min-eq-left, min-eq-right}
 use native.Mathlib.Omega.{arith}
 use lib.IntN.{ℤ, pos, negsuc, _-ℤ_}
-use lib.Signed.{mag, ltZ}
-use borrow.Author.Tests.{le-ltb}
+use lib.Signed.{mag}
 use Rattle.dsp_types.specs.Ints.{up, dn}
 use Rattle.dsp_types.proofs.IntLaws.{less}
-use Rattle.dsp_types.specs.Refusals.{outOfCount, lastCounter}
 use Rattle.dsp_types.specs.Samples.{silence}
 use Rattle.demodulator.specs.Receiver.{Receiver, processSample, missing, feedZeros}
 use Rattle.demodulator.specs.Bounds.{Counter}
-
-pub out-of-count : (c : ℤ) → (ltZ c (pos 0) || ltZ (pos lastCounter) c) ≡ outOfCount c
-unfolding outOfCount
-out-of-count (pos n) = rw (le-ltb n 0 (omega arith))
-out-of-count (negsuc n) = refl
 
 -- a difference that is not negative
 not-negative : (z : ℤ) → dn z ≤ up z → z ≡ pos (mag z)

@@ -3,8 +3,7 @@ use mathlib.Core.Path.{_≡_}
 use Prim.Native.Nat.{ℕ, _+_, _-_, _/_, _<_, _≤_, _^_}
 use native.Mathlib.Omega.{arith}
 use lib.IntN.{ℤ, pos, negsuc, negℤ, _+ℤ_, _-ℤ_, +ℤ-idl}
-use native.Mathlib.Nat.{mod-lt}
-use lib.Dec.{lit≤, lit<}
+use lib.Dec.{lit≤}
 use Rattle.demodulator.specs.declared.Mode.{Mode}
 use Rattle.demodulator.specs.declared.Mode.the-variants.{Idle, DlUnsynchronized, Dl, Ul}
 use Rattle.demodulator.specs.Receiver.{slotReadyFromBegin, slotsToSkip}
@@ -16,7 +15,7 @@ use mir.Val.{SFits, toZ, ofZ}
 use mir.ValLaws.{toZ-ofZ}
 use Rattle.dsp_types.specs.Ints.{up, dn, eqZ}
 use Rattle.dsp_types.proofs.IntLaws.{sum, less, up-neg, dn-neg}
-use Rattle.dsp_types.specs.Times.{divEuclid, divisor, slotOf, slots}
+use Rattle.dsp_types.specs.Times.{divEuclid, divisor, slots}
 use Rattle.demodulator.specs.Bounds.{Within, Counter}
 
 -- a number that is p − n, both within 2^62
@@ -93,11 +92,6 @@ skipped-fits t h = fits-32 _ (negated-within _ (quotient-within _ (negated-withi
     fits-32 : (z : ℤ) → Within ((2 ^ 41 - 2 ^ 34) / 1020 + 1) z → SFits w32 z
     fits-32 (pos n) k = record { sfits = omega (arith, k) }
     fits-32 (negsuc n) k = record { sfits = omega (arith, k) }
-
-pub slot-number : (z : ℤ) → slotOf z < slots
-unfolding slotOf
-slot-number (pos n) = mod-lt n (lit< tt)
-slot-number (negsuc n) = omega (arith, mod-lt n {m = slots} (lit< tt))
 
 pub counter-within : {c : ℤ} → Counter c → Within (2 ^ 61) c
 counter-within h = record { high = omega (arith, h); low = omega (arith, h) }

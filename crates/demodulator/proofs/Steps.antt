@@ -7,6 +7,7 @@ use native.Mathlib.Omega.{arith}
 use lib.Dec.{lit≤}
 use lib.IntN.{ℤ, pos, negsuc, _+ℤ_, _-ℤ_}
 use lib.Ieee.{Float}
+use Rattle.dsp_types.proofs.Laws.{slot-below}
 use Rattle.dsp_types.specs.declared.ComplexSample.{ComplexSample}
 use Rattle.dsp_types.specs.Times.{slotOf, slots}
 use Rattle.dsp_types.specs.Ints.{up, dn}
@@ -15,16 +16,12 @@ use Rattle.demodulator.specs.declared.State.{State}
 use Rattle.demodulator.specs.Receiver.{Receiver, withSignal, setSlot, addSlots, withClock, slotsToSkip, far, tdiff, listen, skipIf, arrived, closes, closeIf, processSample, slotReadyFromBegin}
 use Rattle.demodulator.specs.View.{receiverOf}
 use Rattle.demodulator.specs.Bounds.{Within, Timed, Closing, Counter}
-use Rattle.demodulator.proofs.Signed.{wider, within-pos, within-sum, within-difference, ready-within, slot-number, eqZ-true, counter-37}
+use Rattle.demodulator.proofs.Signed.{wider, within-pos, within-sum, within-difference, ready-within, eqZ-true, counter-37}
 use Rattle.demodulator.proofs.Times.{closed-timed}
 
 pub listen-timed : {k : ℕ} (r : Receiver) (x : ComplexSample) → Timed k r → Timed k (listen r x)
 unfolding listen withSignal
 listen-timed r x h = record { reference = h .reference; ready = h .ready; current = h .current; misses = h .misses }
-
-pub timed-longer : {k : ℕ} (n : ℕ) {r : Receiver} → k ≤ n → Timed k r → Timed n r
-timed-longer n l h =
-    record { reference = wider (2 ^ 39 + n) (omega (arith, l)) (h .reference); ready = h .ready; current = h .current; misses = omega (arith, l, h) }
 
 -- the bounds say nothing of the past
 pub timed-past : {k : ℕ} (s : State) (re im abs re₂ im₂ abs₂ : List Float) → Timed k (receiverOf s re im abs) → Timed k (receiverOf s re₂ im₂ abs₂)
@@ -48,8 +45,8 @@ skipped-timed k r false t l h = h
 skipped-timed k r true t l h =
     record {
       reference = h .reference;
-      ready = ready-near (r .mode) (r .clock .referenceTime) (slotOf (pos (r .clock .currentSlot) +ℤ slotsToSkip t)) (wider (2 ^ 39 + 2000) (omega (arith, l)) (h .reference)) (slot-number _);
-      current = slot-number (pos (r .clock .currentSlot) +ℤ slotsToSkip t);
+      ready = ready-near (r .mode) (r .clock .referenceTime) (slotOf (pos (r .clock .currentSlot) +ℤ slotsToSkip t)) (wider (2 ^ 39 + 2000) (omega (arith, l)) (h .reference)) (slot-below _);
+      current = slot-below (pos (r .clock .currentSlot) +ℤ slotsToSkip t);
       misses = h .misses;
     }
 

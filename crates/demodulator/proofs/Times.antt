@@ -9,6 +9,7 @@ use lib.ListN.{length}
 use lib.IntN.{ℤ, pos, negsuc, negℤ, _+ℤ_, _-ℤ_, _*ℤ_}
 use lib.Signed.{quotZ}
 use lib.Ieee.{Float}
+use Rattle.dsp_types.proofs.Laws.{slot-below}
 use Rattle.dsp_types.proofs.IntLaws.{sum, less, same, up-neg, dn-neg}
 use Rattle.dsp_types.specs.Times.{slots, slotOf}
 use Rattle.timing.specs.Tracking.{late, early}
@@ -24,7 +25,7 @@ use Rattle.demodulator.specs.declared.Mode.the-variants.{Idle, DlUnsynch
 use Rattle.demodulator.specs.Signal.{Signal, timingOf, bitsOf, slotTiming, windowBits}
 use Rattle.demodulator.specs.Receiver.{Lock, Receiver, withMode, withClock, withLock, withWaits, withSlot, setSlot, addSlots, slotReadyFromBegin, foundTime, checked, found, notFoundYet, searchWindow, handOver, lockAfter, downlinkWindow, processPastSamples, moved, later, sooner, trackedLater, trackedSooner, searchOn, nextSlot, schedule, processed, closeWindow}
 use Rattle.demodulator.specs.Bounds.{Within, Timed, Closing}
-use Rattle.demodulator.proofs.Signed.{wider, within-pos, within-sum, within-difference, ready-within, slot-number}
+use Rattle.demodulator.proofs.Signed.{wider, within-pos, within-sum, within-difference, ready-within}
 
 -- ---- a window's bits
 
@@ -39,7 +40,7 @@ sync-placed s = placed (windowBits s) (bits-long s 1024 256)
 -- ---- sums
 
 -- a find's reference time: the place is even and at most 256, so that the source's quotient rounds nothing
-found-half : (z : ℤ) (half : ℕ) → half ≤ 128
+pub found-half : (z : ℤ) (half : ℕ) → half ≤ 128
     → z -ℤ pos 1018 +ℤ quotZ (pos (2 * half + 2) -ℤ pos 510) (pos 2) *ℤ pos 4 ≡ z -ℤ pos 2034 +ℤ pos (2 * half * 2)
 found-half z half h =
     rw (below, halved)
@@ -114,8 +115,8 @@ ready-bound m {b} z s l h t =
     (within-sum (z +ℤ pos (s * 1020)) (slotReadyFromBegin m) (within-sum z (pos (s * 1020)) h (within-pos {n = s * 1020} (slots * 1020) (omega (arith, t)))) (ready-within m))
 
 -- bounds that hold after k samples hold after more
-pub later-on : {k : ℕ} (n : ℕ) {r : Receiver} → k ≤ n → Timed k r → Timed n r
-later-on {k} n l h = record { reference = wider (2 ^ 39 + n) (omega arith) (h .reference); ready = h .ready; current = h .current; misses = omega (arith, h .misses) }
+pub timed-longer : {k : ℕ} (n : ℕ) {r : Receiver} → k ≤ n → Timed k r → Timed n r
+timed-longer {k} n l h = record { reference = wider (2 ^ 39 + n) (omega arith) (h .reference); ready = h .ready; current = h .current; misses = omega (arith, h .misses) }
 
 -- ---- a window is read
 
@@ -150,8 +151,8 @@ module _ (k : ℕ) (r : Receiver) (h : Closing k r) where
       rw (found-reference z f p) (found-within z (f .pos) (h .ready) (omega (arith, p .place, p .most))) in
       record {
         reference = wider (2 ^ 39 + k) (omega arith) w;
-        ready = ready-bound DlUnsynchronized _ (slotOf (negsuc 0)) (omega arith) w (slot-number (negsuc 0));
-        current = slot-number (negsuc 0);
+        ready = ready-bound DlUnsynchronized _ (slotOf (negsuc 0)) (omega arith) w (slot-below (negsuc 0));
+        current = slot-below (negsuc 0);
         misses = omega arith;
       }
   search-bounds false f p = record { reference = stays .reference; ready = stays .ready; current = stays .current; misses = stays .misses }
@@ -188,8 +189,8 @@ module _ (k : ℕ) (small : k ≤ 2000) where
   next-timed r w l =
       record {
         reference = w;
-        ready = wider (2 ^ 40) (lit≤ tt) (ready-bound (r .mode) (r .clock .referenceTime) _ (omega arith) w (slot-number _));
-        current = slot-number _;
+        ready = wider (2 ^ 40) (lit≤ tt) (ready-bound (r .mode) (r .clock .referenceTime) _ (omega arith) w (slot-below _));
+        current = slot-below _;
         misses = omega (arith, l);
       }
 

@@ -9,9 +9,8 @@ use lib.ListN.{take}
 use lib.IntN.{ℤ, pos, negsuc, _+ℤ_, _-ℤ_}
 use lib.Ieee.{Float, binary32, add, sub}
 use borrow.Author.Tests.{le-leb, lt-leb, ne-eqb}
-use Rattle.dsp_types.specs.Samples.{zeroF}
+use Rattle.dsp_types.specs.Samples.{zeroF, oneF}
 use Rattle.dsp_types.specs.Times.{slotOf}
-use Rattle.timing.specs.Floats.{oneF}
 use Rattle.timing.specs.Tracking.{averagedOf, late, early}
 use Rattle.burst_finder.specs.declared.Found.{Found}
 use Rattle.burst_finder.specs.declared.SlotType.the-variants as SlotType

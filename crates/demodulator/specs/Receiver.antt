@@ -8,10 +8,9 @@ use lib.IntN.{ℤ, pos, negsuc, negℤ, _+ℤ_, _-ℤ_, _*ℤ_}
 use lib.Signed.{ltZ, quotZ}
 use lib.Ieee.{Float, binary32, add, sub}
 use Rattle.dsp_types.specs.declared.ComplexSample.{ComplexSample}
-use Rattle.dsp_types.specs.Samples.{zeroF, silence}
+use Rattle.dsp_types.specs.Samples.{zeroF, silence, oneF}
 use Rattle.dsp_types.specs.Times.{slotOf, divEuclid}
 use Rattle.dsp_types.specs.Ints.{eqZ}
-use Rattle.timing.specs.Floats.{oneF}
 use Rattle.timing.specs.Tracking.{averagedOf, late, early}
 use Rattle.burst_finder.specs.declared.Finding.{Finding}
 use Rattle.burst_finder.specs.declared.SlotType.{SlotType}

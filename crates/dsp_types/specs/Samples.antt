@@ -5,9 +5,12 @@ use lib.ListN.{getD}
 use lib.Ieee.{Float, binary32, ofBits}
 use Rattle.dsp_types.specs.declared.ComplexSample.{ComplexSample}
 
--- +0.0, as the code's literal 0.0 has it
+-- +0.0 and 1.0, as the code's literals have them
 abbrev pub zeroF : Float
 zeroF = ofBits binary32 0
+
+abbrev pub oneF : Float
+oneF = ofBits binary32 0x3f80_0000
 
 -- what older samples start as
 abbrev pub silence : ComplexSample

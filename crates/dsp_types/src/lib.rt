@@ -18,7 +18,7 @@ pub use refusals::NOT_FOLLOWING;
 pub use refusals::PAST_COUNTER;
 pub use refusals::SLOTS;
 ghost use mathlib.Core.Path.{_≡_};
-ghost use Prim.Native.Nat.{_%_, min};
+ghost use Prim.Native.Nat.{_-_, _%_, min};
 ghost use lib.IntN.{pos, _+ℤ_};
 ghost use lib.Signed.{mag};
 ghost use Rattle.dsp_types.specs.Times.{slotOf, slots, divEuclid};
@@ -94,6 +94,13 @@ pub fn least(a: usize, b: usize) -> usize
     ensures { λ r. ⌜ r ≡ min a b ⌝ }
 {
     if a < b { a } else { b }
+}
+
+// a − b, or 0 where b is larger.
+pub fn saturating_sub(a: usize, b: usize) -> usize
+    ensures { λ r. ⌜ r ≡ a - b ⌝ }
+{
+    if b < a { a - b } else { 0 }
 }
 
 // Whether some byte is neither 0 nor 1. It looks at every byte, so that the compiler can take many at once.

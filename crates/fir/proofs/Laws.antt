@@ -10,7 +10,7 @@ use Rattle.dsp_types.specs.declared.ComplexSample.{ComplexSample}
 use Rattle.dsp_types.specs.Samples.{silence, ago}
 use Rattle.dsp_types.specs.Ring.{Agree, newest}
 use Rattle.dsp_types.proofs.RingLaws.{newest-newer, newer-ago, newest-same, newest-at}
-use Rattle.fir.specs.Fir.{termOf, laneUpTo, laneOf, firOf, filterOf, filteredOf, LineOf, lineAfter, outsOf, samplesOf, blockOf, startWith}
+use Rattle.fir.specs.Fir.{termOf, laneUpTo, laneOf, firOf, filterOf, filteredOf, LineOf, lineAfter, outsOf, samplesOf, blockOf, startWith, reOf, imOf}
 
 -- ---- the filter reads the newest 32 and no other
 
@@ -85,6 +85,12 @@ pub length-outs : (line xs : List ComplexSample) → length (outsOf line xs) ≡
 unfolding outsOf
 length-outs line [] = refl
 length-outs line (x ∷ xs) = ap suc (length-outs (take 32 (x ∷ line)) xs)
+
+-- the samples of their parts
+pub samples-parts : (xs : List ComplexSample) → samplesOf (reOf xs) (imOf xs) ≡ xs
+unfolding samplesOf
+samples-parts [] = refl
+samples-parts (x ∷ xs) = ap (λ (l : List ComplexSample). x ∷ l) (samples-parts xs)
 
 -- a block that fits is taken whole
 pub block-whole : (re im outRe outIm : List Float) → length (samplesOf re im) ≤ min 1024 (min (length outRe) (length outIm))

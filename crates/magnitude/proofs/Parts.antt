@@ -20,12 +20,6 @@ use Rattle.magnitude.proofs.Values.{Sized, sized-finite, sized-units, n
 pub nan-no-number : (x : Float) → ne x x ≡ true → finite x ≡ false
 nan-no-number x e = rw (differs-from-itself x (subst T (sym e) tt))
 
-pub not-nan : (x : Float) → ne x x ≡ false → T (not (isNan x))
-unfolding ne isNan
-not-nan nan e = subst T e tt
-not-nan (inf s) e = tt
-not-nan (fin s m e') e = tt
-
 pub below-not-nan : (x y : Float) → lt x y ≡ true → T (not (isNan x))
 unfolding lt isNan
 below-not-nan nan y e = absurd (true≢false (sym e))

@@ -6,7 +6,8 @@ use Prim.Native.Nat.{ℕ, zero, suc, _/_, _%_, _≤_, _<_}
 use native.Mathlib.Omega.{arith}
 use lib.ListN.{length, set}
 use lib.Dec.{ltb, eqb}
-use borrow.Author.Tests.{lt-ltb, le-ltb, eq-eqb, ne-eqb, eqb-true, not-false}
+use borrow.Author.Tests.{lt-ltb, le-ltb, eq-eqb, ne-eqb}
+use Rattle.dsp_types.proofs.Laws.{right-length}
 use Rattle.dsp_types.specs.Refusals.{wrongLength, notBits}
 use Rattle.burst_finder.specs.declared.Finding.{Finding}
 use Rattle.burst_finder.specs.declared.SlotType.{SlotType}
@@ -88,10 +89,6 @@ no-test false true b k e = absurd (omega (arith, e))
 no-test false false true k e = absurd (omega (arith, e))
 no-test false false false true e = absurd (omega (arith, e))
 no-test false false false false e = (refl, refl, refl)
-
-right-length : (n : ℕ) (xs : List ℕ) → wrongLength n xs ≡ false → length xs ≡ n
-unfolding wrongLength
-right-length n xs e = eqb-true (length xs) n (not-false (eqb (length xs) n) e)
 
 window-most : (k : SlotType) → windowBits k ≤ 510
 unfolding windowBits

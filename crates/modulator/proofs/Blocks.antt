@@ -18,7 +18,7 @@ use Rattle.dsp_types.specs.Refusals.{lastCounter, outOfCount, counters}
 use Rattle.dsp_types.proofs.RingLaws.{le-or-lt}
 use Rattle.dsp_types.specs.Samples.{silence, ago}
 use Rattle.fir.specs.Fir.{filterOf, lineAfter, outsOf, samplesOf, blockOf, startWith, reOf, imOf}
-use Rattle.fir.proofs.Laws.{line-append, outs-append, length-outs, start-part}
+use Rattle.fir.proofs.Laws.{line-append, outs-append, length-outs, start-part, samples-parts}
 use Rattle.fir.proofs.Rows.{rest}
 use Rattle.modulator.specs.declared.due.Due.{Due}
 use Rattle.modulator.specs.declared.due.Due.the-variants.{Refused, Silence, Symbol}
@@ -186,11 +186,6 @@ pub inputs-length : (due : ℕ → Due) (n i p : ℕ) → length (inputsOf due n
 unfolding inputsOf
 inputs-length due zero i p = refl
 inputs-length due (suc n) i p = ap suc (inputs-length due n (suc i) (phaseAfter p (due i)))
-
-samples-parts : (xs : List ComplexSample) → samplesOf (reOf xs) (imOf xs) ≡ xs
-unfolding samplesOf
-samples-parts [] = refl
-samples-parts (x ∷ xs) = ap (λ (l : List ComplexSample). x ∷ l) (samples-parts xs)
 
 pub block-inputs : (re im outRe outIm : List Float) (xs : List ComplexSample) → re ≡ reOf xs → im ≡ imOf xs → length xs ≤ 256 → length xs ≤ length outRe → length xs ≤ length outIm
     → blockOf re im outRe outIm ≡ xs

@@ -1,13 +1,13 @@
 -- What is due, by the tests that the code makes. Assumes nothing.
 use mathlib.Core.Path.{_≡_, refl, sym, _∙_}
-use mathlib.Core.Bool.{Bool, true, false, not, _||_, cond}
+use mathlib.Core.Bool.{Bool, true, false, not, cond}
 use Prim.Native.Nat.{ℕ, zero, suc, _+_, _-_, _*_, _/_, _%_, _<_, _≤_}
 use native.Mathlib.Omega.{arith}
 use mathlib.Core.List.{List}
 use lib.Dec.{eqb}
 use lib.IntN.{ℤ, pos, negsuc}
 use lib.ListN.{getD, length}
-use lib.Signed.{mag, ltZ}
+use lib.Signed.{mag}
 use borrow.Author.Tests.{ltb-false, lt-ltb, le-ltb, eq-eqb, ne-eqb, eqb-true}
 use Rattle.dsp_types.proofs.IntLaws.{less, same}
 use Rattle.dsp_types.specs.Refusals.{lastCounter, outOfCount, wrongLength, notBits}
@@ -19,11 +19,6 @@ pub true-ne : true ≡ false → ⊥
 true-ne e = let z : _≡_ {A = ℕ} 0 1 = cc in omega arith
 
 -- ---- refusals from the input
-
-pub out-of-count : (c : ℤ) → (ltZ c (pos 0) || ltZ (pos lastCounter) c) ≡ outOfCount c
-unfolding outOfCount
-out-of-count (pos n) = rw (le-ltb n 0 (omega arith))
-out-of-count (negsuc n) = refl
 
 module _ (bits : List ℕ) where
   pub no-bits : (b : Bool) → not b ≡ true → 0 ≡ bitsRefusal b bits

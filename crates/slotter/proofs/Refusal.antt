@@ -4,9 +4,8 @@ use mathlib.Core.Bool.{Bool, true, false, cond, _||_}
 use mathlib.Core.List.{List}
 use Prim.Native.Nat.{ℕ}
 use native.Mathlib.Omega.{arith}
-use lib.Dec.{eqb}
 use lib.ListN.{length}
-use borrow.Author.Tests.{eqb-true, not-false}
+use Rattle.dsp_types.proofs.Laws.{right-length}
 use Rattle.dsp_types.specs.Refusals.{wrongLength, notBits}
 use Rattle.slotter.specs.Bursts.{blockRefusal}
 
@@ -30,10 +29,6 @@ module _ (n : ℕ) (blk1 bbk blk2 : List ℕ) (otherwise : ℕ) where
   unfolding blockRefusal
   passed l b = rw (l, b)
 
-right-length : {n : ℕ} (xs : List ℕ) → wrongLength n xs ≡ false → length xs ≡ n
-unfolding wrongLength
-right-length {n} xs e = eqb-true (length xs) n (not-false (eqb (length xs) n) e)
-
 -- where no block is refused, each has its length
 pub right-lengths : (n : ℕ) (blk1 bbk blk2 : List ℕ) (otherwise : ℕ) → blockRefusal n blk1 bbk blk2 otherwise ≡ 0
     → (length blk1 ≡ n) × (length bbk ≡ 30) × (length blk2 ≡ 216)
@@ -46,4 +41,4 @@ right-lengths n blk1 bbk blk2 otherwise = go (wrongLength n blk1) (wrongLength 3
     go true y z e f g h = absurd (omega (arith, h))
     go false true z e f g h = absurd (omega (arith, h))
     go false false true e f g h = absurd (omega (arith, h))
-    go false false false e f g h = (right-length blk1 e, right-length bbk f, right-length blk2 g)
+    go false false false e f g h = (right-length n blk1 e, right-length 30 bbk f, right-length 216 blk2 g)

@@ -12,7 +12,8 @@ use lib.Ieee.Fits.{neg-fits, down-pos}
 use lib.Ieee.Bits.{ofBits-fits}
 use lib.Ieee.Back.{whole-unique}
 use lib.Ieee.Scale.{finite}
-use Rattle.timing.specs.Floats.{zeroF, oneF, twoF}
+use Rattle.dsp_types.specs.Samples.{zeroF, oneF}
+use Rattle.timing.specs.Floats.{twoF}
 use Rattle.timing.specs.Turns.{absoluteOf, wholeOf}
 
 and-first : (a b : Bool) → (a && b) ≡ true → a ≡ true

@@ -11,7 +11,8 @@ use lib.Ieee.{Float, nan, inf, fin, binary32, up, down, neg, div, lt, eq, ofBits
 use lib.Ieee.Fits.{up-pos, down-pos}
 use lib.Ieee.Positive.{positive}
 use lib.Ieee.Scale.{round-same}
-use Rattle.timing.specs.Floats.{zeroF, halfF, oneF}
+use Rattle.dsp_types.specs.Samples.{zeroF, oneF}
+use Rattle.timing.specs.Floats.{halfF}
 use Rattle.timing.specs.Turns.{absoluteOf, octantOf, quadrantOf, directed, quarterTurns}
 use Rattle.timing.specs.Document.{ExactAt}
 

@@ -13,7 +13,8 @@ use lib.Ieee.Bits.{ofBits-fits, is-true}
 use lib.Ieee.Fits.{up-pos, down-pos, add-fits, sub-fits, mul-fits, cond-fits}
 use lib.Ieee.Order.{le-of-values}
 use lib.Ieee.Positive.{first-pos}
-use Rattle.timing.specs.Floats.{zeroF, halfF, oneF, twoF, fourF, bend}
+use Rattle.dsp_types.specs.Samples.{zeroF, oneF}
+use Rattle.timing.specs.Floats.{halfF, twoF, fourF, bend}
 use Rattle.timing.specs.Turns.{absoluteOf, curveOf, octantOf, wrappedOf, quadrantOf, directed, quarterTurns}
 use Rattle.timing.specs.Document.{InTurn}
 use Rattle.timing.proofs.Within.{Within, Holds, weaken, mul-within, add-within, sub-within, div-within}

@@ -11,7 +11,8 @@ use borrow.Author.Tests.{ltb-true, ltb-false, le-ltb}
 use lib.Ieee.{Float, nan, inf, fin, binary32, up, down, odd, units, round, sum, add, sub, mul, isNan, ofBits}
 use lib.Ieee.Fits.{down-pos, round-is}
 use lib.Ieee.Order.{drop, kept}
-use Rattle.timing.specs.Floats.{zeroF, oneF, twoF, tenth}
+use Rattle.dsp_types.specs.Samples.{zeroF, oneF}
+use Rattle.timing.specs.Floats.{twoF, tenth}
 use Rattle.timing.specs.Document.{InTurn}
 use Rattle.timing.specs.Tracking.{averagedOf, late, early, loweredOf, settledOf, movedOf, Settled}
 use Rattle.timing.proofs.Within.{Bounded, Holds, weaken, round-within, apart-bounded, add-bounded, sub-bounded, mul-bounded}

@@ -4,7 +4,8 @@ use mathlib.Core.Bool.{Bool, true, false}
 use lib.Dec.{T}
 use lib.Ieee.{Float, nan, inf, fin, binary32, fits, le, lt, neg, ofBits}
 use lib.Ieee.Scale.{finite}
-use Rattle.timing.specs.Floats.{zeroF, halfF, oneF, twoF, fourF}
+use Rattle.dsp_types.specs.Samples.{zeroF, oneF}
+use Rattle.timing.specs.Floats.{halfF, twoF, fourF}
 use Rattle.timing.specs.Turns.{quarterTurns}
 
 -- the sign, which −0.0 has too

@@ -1,15 +1,9 @@
--- The f32s that 01 and the source name, as the code's literals have them. Definitions only.
+-- The f32s that 01 and the source name beside 0 and 1, as the code's literals have them. Definitions only.
 use mathlib.Core.Bool.{false}
 use lib.Ieee.{Float, binary32, ofBits, round}
 
-abbrev pub zeroF : Float
-zeroF = ofBits binary32 0x0000_0000
-
 abbrev pub halfF : Float
 halfF = ofBits binary32 0x3f00_0000
-
-abbrev pub oneF : Float
-oneF = ofBits binary32 0x3f80_0000
 
 abbrev pub twoF : Float
 twoF = ofBits binary32 0x4000_0000

@@ -3,7 +3,8 @@ use mathlib.Core.Path.{_≡_}
 use mathlib.Core.Bool.{Bool, false, cond}
 use lib.IntN.{ℤ, pos, negsuc, _+ℤ_}
 use lib.Ieee.{Float, binary32, neg, add, sub, mul, lt, isNan}
-use Rattle.timing.specs.Floats.{halfF, oneF, twoF, tenth}
+use Rattle.dsp_types.specs.Samples.{oneF}
+use Rattle.timing.specs.Floats.{halfF, twoF, tenth}
 
 -- `averaged += (timing − 2.0 − averaged) * 0.1`
 unfoldable pub averagedOf : Float → Float → Float

@@ -4,7 +4,8 @@ use mathlib.Core.Bool.{Bool, true, false, not, _&&_, cond}
 use lib.IntN.{pos}
 use lib.Ieee.{Float, nan, inf, fin, binary32, add, sub, mul, div, lt, eq, ofInt, toUnsigned}
 use lib.Ieee.Scale.{finite}
-use Rattle.timing.specs.Floats.{zeroF, halfF, oneF, twoF, fourF, bend}
+use Rattle.dsp_types.specs.Samples.{zeroF, oneF}
+use Rattle.timing.specs.Floats.{halfF, twoF, fourF, bend}
 
 -- |x|
 unfoldable pub absoluteOf : Float → Float

@@ -1,19 +1,12 @@
 // Estimates symbol timing from magnitudes: they have a tone at the symbol rate, whose phase is where the symbols stand.
 use crate::quarter_turns;
+use dsp_types::saturating_sub;
 use history::recall;
 ghost use mathlib.Core.Path.{_≡_};
-ghost use Prim.Native.Nat.{_-_, _%_};
-ghost use Rattle.dsp_types.specs.Samples.{ago};
+ghost use Prim.Native.Nat.{_%_};
+ghost use Rattle.dsp_types.specs.Samples.{ago, zeroF};
 ghost use Rattle.history.specs.History.{heldIn};
-ghost use Rattle.timing.specs.Floats.{zeroF};
 ghost use Rattle.timing.specs.Estimate.{estimateTiming};
-
-// d − i, or 0 where i is larger.
-fn saturating_sub(d: usize, i: usize) -> usize
-    ensures { λ r. ⌜ r ≡ d - i ⌝ }
-{
-    if i < d { d - i } else { 0 }
-}
 
 // The estimate for n_symbols symbols from d steps ago on, in a ring of magnitudes whose newest stands at `at`. A delay counts modulo 2,048.
 pub fn estimate_timing(abs: &[f32; 2048], at: usize, d: usize, n_symbols: usize) -> f32

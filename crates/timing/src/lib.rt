@@ -5,7 +5,7 @@ pub use estimate::estimate_timing;
 ghost use mathlib.Core.Path.{_≡_};
 ghost use lib.Ieee.{lt};
 ghost use lib.Ieee.Scale.{finite};
-ghost use Rattle.timing.specs.Floats.{zeroF};
+ghost use Rattle.dsp_types.specs.Samples.{zeroF};
 ghost use Rattle.timing.specs.Turns.{absoluteOf, curveOf, octantOf, quadrantOf, directed, quarterTurns, wholeOf, fractOf};
 
 // |x|: a zero loses its sign too.

@@ -1,5 +1,6 @@
 -- `cf32::pattern` meets its contract: what differs from itself is NaN, and nothing else is.
-use Rattle.cf32.proofs.Parts.{not-nan, nan-pattern}
+use Rattle.dsp_types.proofs.Laws.{not-nan}
+use Rattle.cf32.proofs.Parts.{nan-pattern}
 use borrow.Author.Needs.{needs}
 use Rattle.cf32.proofs.pattern.Statement.{statement}
 use Rattle.cf32.proofs.pattern.Tie as tie

@@ -4,8 +4,9 @@ use mathlib.Core.Bool.{not}
 use lib.Dec.{T}
 use lib.Ieee.{binary32, fits, nanBits, ofBits}
 use borrow.Author.Needs.{needs}
+use Rattle.dsp_types.proofs.Laws.{not-nan}
 use Rattle.magnitude.specs.Magnitude.{magnitudeOf}
-use Rattle.magnitude.proofs.Parts.{nan-no-number, not-nan, zero-first, zero-second, two-sizes}
+use Rattle.magnitude.proofs.Parts.{nan-no-number, zero-first, zero-second, two-sizes}
 use Rattle.magnitude.proofs.exact.Statement.{statement}
 use Rattle.magnitude.proofs.exact.Tie as tie
 

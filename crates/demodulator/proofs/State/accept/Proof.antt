@@ -5,6 +5,7 @@ use Prim.Native.Nat.{ℕ, _-_, _≤_, _<_, _^_}
 use native.Mathlib.Omega.{arith}
 use lib.Dec.{lit≤}
 use lib.IntN.{_-ℤ_}
+use Rattle.demodulator.proofs.Times.{timed-longer}
 use Rattle.dsp_types.specs.Ints.{up}
 use Rattle.demodulator.specs.Receiver.{Receiver, withNext, processSample, missing, feedZeros, accept}
 use Rattle.demodulator.specs.Windows.{handsOver, zerosWindows}
@@ -14,7 +15,6 @@ use Rattle.demodulator.proofs.Signed.{within-pos, counter-within}
 use Rattle.demodulator.proofs.Samples.{no-zeros}
 use Rattle.demodulator.proofs.Handing.{or-false, or-assoc, no-zeros-hand, accept-hands}
 use Rattle.demodulator.proofs.Doors.{missing-most, missing-below}
-use Rattle.demodulator.proofs.Steps.{timed-longer}
 use Rattle.demodulator.proofs.State.accept.Statement.{statement}
 use Rattle.demodulator.proofs.State.accept.Tie as tie
 

@@ -6,10 +6,11 @@ use lib.Dec.{lit≤}
 use lib.IntN.{pos, _+ℤ_}
 use mir.Syntax.{w32}
 use mir.ValLaws.{toZ-ofZ}
+use Rattle.dsp_types.proofs.Laws.{slot-below}
 use Rattle.dsp_types.specs.Times.{slotOf, slots}
 use Rattle.demodulator.specs.Receiver.{addSlots}
 use Rattle.demodulator.specs.View.{receiverOf}
-use Rattle.demodulator.proofs.Signed.{wider, slot-number}
+use Rattle.demodulator.proofs.Signed.{wider}
 use borrow.Author.Needs.{needs}
 use Rattle.demodulator.proofs.State.add_slots.Statement.{statement}
 use Rattle.demodulator.proofs.State.add_slots.Tie as tie
@@ -31,7 +32,7 @@ add-timeslots-requires c κs = search needs
 set-slot-requires : tie.Need-set-slot-requires
 unfolding receiverOf
 set-slot-requires c κs =
-    (wider (2 ^ 40) (lit≤ tt) (c .before .pre .reference), rw (added c) (slot-number _))
+    (wider (2 ^ 40) (lit≤ tt) (c .before .pre .reference), rw (added c) (slot-below _))
 
 returns : tie.Need-returns
 unfolding addSlots receiverOf

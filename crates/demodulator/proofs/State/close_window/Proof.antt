@@ -4,7 +4,7 @@ use mathlib.Core.List.{[]}
 use lib.Dec.{lit≤}
 use Rattle.demodulator.specs.Receiver.{Receiver, schedule, closeWindow}
 use Rattle.demodulator.specs.View.{receiverOf}
-use Rattle.demodulator.proofs.Times.{processed-timed, later-on}
+use Rattle.demodulator.proofs.Times.{processed-timed, timed-longer}
 use Rattle.demodulator.proofs.Steps.{timed-past}
 use Rattle.demodulator.proofs.Handing.{hands}
 use borrow.Author.Needs.{needs}
@@ -18,7 +18,7 @@ schedule-requires : tie.Need-schedule-requires
 schedule-requires c κs =
     let s = c .before .before .before in
     let a = s .args in
-    let t = later-on 3000 (lit≤ tt) (processed-timed 2000 (receiverOf (a .self) (a .re .now) (a .im .now) (a .abs .now)) (lit≤ tt) (s .pre)) in
+    let t = timed-longer 3000 (lit≤ tt) (processed-timed 2000 (receiverOf (a .self) (a .re .now) (a .im .now) (a .abs .now)) (lit≤ tt) (s .pre)) in
     timed-past (c .process-past-samples .result) (a .re .now) (a .im .now) (a .abs .now) [] [] [] (rw (c .process-past-samples .ensures) t)
 
 returns : tie.Need-returns

@@ -4,11 +4,12 @@ use mathlib.Core.List.{List, []}
 use lib.Dec.{lit≤}
 use lib.IntN.{ℤ}
 use lib.Ieee.{Float}
+use Rattle.demodulator.proofs.Times.{timed-longer}
 use Rattle.demodulator.specs.Receiver.{Receiver, listen, far, skipIf, arrived, processSample, tdiff}
 use Rattle.demodulator.specs.Windows.{windowOf}
 use Rattle.demodulator.specs.View.{receiverOf}
 use Rattle.demodulator.proofs.Signed.{read, counter-37}
-use Rattle.demodulator.proofs.Steps.{listen-timed, arrived-timed, timed-longer, timed-past, tdiff-within}
+use Rattle.demodulator.proofs.Steps.{listen-timed, arrived-timed, timed-past, tdiff-within}
 use borrow.Author.Needs.{needs}
 use Rattle.demodulator.proofs.State.process_sample.Statement.{statement}
 use Rattle.demodulator.proofs.State.process_sample.Tie as tie

@@ -6,6 +6,7 @@ use native.Mathlib.Omega.{arith}
 use lib.IntN.{pos, _-ℤ_}
 use mir.Syntax.{w64}
 use mir.ValLaws.{toZ-pos}
+use Rattle.demodulator.proofs.Times.{timed-longer}
 use Rattle.dsp_types.specs.Samples.{silence}
 use Rattle.demodulator.specs.Receiver.{Receiver, processSample, feedZeros}
 use Rattle.demodulator.specs.Windows.{handsOver, windowOf, zerosWindows}
@@ -14,7 +15,7 @@ use Rattle.demodulator.specs.Bounds.{Timed, Counter}
 use Rattle.demodulator.proofs.Signed.{within-pos, counter-within}
 use Rattle.demodulator.proofs.Samples.{one-zero, counter-before}
 use Rattle.demodulator.proofs.Handing.{one-zero-hands}
-use Rattle.demodulator.proofs.Steps.{sample-timed, timed-longer}
+use Rattle.demodulator.proofs.Steps.{sample-timed}
 use Rattle.demodulator.proofs.State.process_zeros.Statement.{statement}
 use Rattle.demodulator.proofs.State.process_zeros.Tie as tie
 

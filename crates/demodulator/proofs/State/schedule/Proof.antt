@@ -8,7 +8,7 @@ use Rattle.demodulator.specs.declared.Mode.the-variants.{Idle, DlUnsynch
 use Rattle.demodulator.specs.Receiver.{Receiver, withClock, searchOn, nextSlot, schedule}
 use Rattle.demodulator.specs.View.{receiverOf}
 use Rattle.demodulator.proofs.Signed.{wider, within-pos}
-use Rattle.demodulator.proofs.Times.{tracked-timed, later-on}
+use Rattle.demodulator.proofs.Times.{tracked-timed, timed-longer}
 use Rattle.demodulator.proofs.Views.{mode-idle, mode-search, mode-downlink, mode-uplink, searched-on}
 use borrow.Author.Needs.{needs}
 use Rattle.demodulator.proofs.State.schedule.Statement.{statement}
@@ -26,7 +26,7 @@ track-requires c κs = search needs
 
 add-slots-requires : tie.Need-add-slots-requires
 add-slots-requires c κs =
-    rw (c .track .ensures [] [] []) (later-on 4000 (lit≤ tt) (tracked-timed 3000 (receiverOf (c .before .before .args .self) [] [] []) (c .before .before .pre)))
+    rw (c .track .ensures [] [] []) (timed-longer 4000 (lit≤ tt) (tracked-timed 3000 (receiverOf (c .before .before .args .self) [] [] []) (c .before .before .pre)))
 
 add-slots-requires-2 : tie.Need-add-slots-requires-2
 add-slots-requires-2 c κs = search needs

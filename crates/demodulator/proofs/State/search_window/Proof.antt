@@ -2,17 +2,18 @@
 use mathlib.Core.Path.{_≡_, ap, _∙_}
 use Prim.Native.Nat.{_≤_, _^_}
 use native.Mathlib.Omega.{arith}
-use lib.Dec.{lit≤, lit<}
+use lib.Dec.{lit≤}
 use lib.IntN.{negsuc}
 use lib.ListN.{take, length}
 use lib.Seq.{take-all}
+use Rattle.dsp_types.proofs.Laws.{slot-below}
 use Rattle.burst_finder.specs.Search.{findSync, below}
 use Rattle.demodulator.specs.declared.State.{State}
 use Rattle.demodulator.specs.declared.window.Window.{Window}
 use Rattle.demodulator.specs.Receiver.{Receiver, withMode, withClock, withLock, withSlot, setSlot}
 use Rattle.demodulator.specs.View.{receiverOf, modeOf, Reads, IsWindow}
 use Rattle.demodulator.specs.declared.Mode.the-variants.{Dl}
-use Rattle.demodulator.proofs.Signed.{wider, slot-number}
+use Rattle.demodulator.proofs.Signed.{wider}
 use Rattle.demodulator.proofs.Times.{found-within}
 use Rattle.demodulator.proofs.Views.{heard, mode-search, found-place, search-missed, search-found}
 use borrow.Author.Needs.{needs}
@@ -90,7 +91,7 @@ set-slot-requires c κs =
     let f = timed (c .before) in
     let a = f .before .before .before in
     rw (f .found-time .ensures, c .from-int2 .ensures)
-    (wider (2 ^ 40) (lit≤ tt) (found-within (self a .«slot_ready_time» .0) (a .find-sync .result .pos) (start a .pre .0 .ready) (place a (f .before .if1 .left))), slot-number (negsuc 0))
+    (wider (2 ^ 40) (lit≤ tt) (found-within (self a .«slot_ready_time» .0) (a .find-sync .result .pos) (start a .pre .0 .ready) (place a (f .before .if1 .left))), slot-below (negsuc 0))
 
 returns-2 : tie.Need-returns-2
 unfolding receiverOf withMode withClock withLock withSlot modeOf

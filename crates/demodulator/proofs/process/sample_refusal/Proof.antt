@@ -1,9 +1,9 @@
 -- `process::sample_refusal` meets its contract: the tests in the order of the numbers.
 use mathlib.Core.Path.{_≡_, sym, _∙_}
 use mathlib.Core.Bool.{_||_}
+use Rattle.dsp_types.proofs.Laws.{out-of-count}
 use Rattle.dsp_types.specs.Refusals.{beyond, outOfCount}
 use Rattle.demodulator.specs.Calls.{sampleRefusal}
-use Rattle.demodulator.proofs.Samples.{out-of-count}
 use borrow.Author.Needs.{needs}
 use Rattle.demodulator.proofs.process.sample_refusal.Statement.{statement}
 use Rattle.demodulator.proofs.process.sample_refusal.Tie as tie

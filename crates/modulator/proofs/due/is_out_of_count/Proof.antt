@@ -1,7 +1,7 @@
 -- `due::is_out_of_count` meets its contract.
 use mir.Syntax.{w64}
 use mir.ValLaws.{toZ-ofZ}
-use Rattle.modulator.proofs.Places.{out-of-count}
+use Rattle.dsp_types.proofs.Laws.{out-of-count}
 use Rattle.modulator.proofs.due.is_out_of_count.Statement.{statement}
 use Rattle.modulator.proofs.due.is_out_of_count.Tie as tie
 

@@ -5,9 +5,8 @@ use Prim.Native.Nat.{ℕ, _+_, _-_, _*_, _%_, _≤_, _<_}
 use native.Mathlib.Omega.{arith}
 use borrow.Author.Needs.{needs}
 use lib.Ieee.{Float}
-use Rattle.dsp_types.specs.Samples.{ago}
+use Rattle.dsp_types.specs.Samples.{ago, zeroF}
 use Rattle.history.specs.History.{heldIn}
-use Rattle.timing.specs.Floats.{zeroF}
 use Rattle.timing.specs.Estimate.{sumI, sumQ, estimateTiming}
 use Rattle.timing.proofs.Window.{step-i, step-q}
 use Rattle.timing.proofs.estimate.estimate_timing.Statement.{statement}
