@@ -1,6 +1,6 @@
 -- When a sum is what it is in whole numbers, and when it is the nearest that 64 bits hold. Assumes nothing.
 use mathlib.Core.Path.{_≡_, sym, ap}
-use Prim.Native.Nat.{ℕ, suc, _+_, _-_, _≤_, _<_, _^_, min}
+use Prim.Native.Nat.{ℕ, _+_, _-_, _≤_, _<_, _^_}
 use native.Mathlib.Nat.{min-eq-left, min-eq-right}
 use native.Mathlib.Omega.{arith}
 use mathlib.Core.Bool.{true, false}
