@@ -15,7 +15,8 @@ use mir.Val.{SFits, toZ, ofZ}
 use mir.ValLaws.{toZ-ofZ}
 use Rattle.dsp_types.specs.Ints.{up, dn, eqZ}
 use Rattle.dsp_types.proofs.IntLaws.{sum, less, up-neg, dn-neg}
-use Rattle.dsp_types.specs.Times.{divEuclid, divisor, slots}
+use Rattle.dsp_types.proofs.Fitting.{fitted-fits}
+use Rattle.dsp_types.specs.Times.{fitted, divEuclid, divisor, slots}
 use Rattle.demodulator.specs.Bounds.{Within, Counter}
 
 -- a number that is p − n, both within 2^62
@@ -33,6 +34,13 @@ sum-fits x y h k = fits (x +ℤ y) (up x + up y) (dn x + dn y) (omega (arith, su
 
 pub difference-fits : (x y : ℤ) → Within (2 ^ 61) x → Within (2 ^ 61) y → SFits w64 (x -ℤ y)
 difference-fits x y h k = fits (x -ℤ y) (up x + dn y) (dn x + up y) (omega (arith, less x y)) (omega (arith, h, k)) (omega (arith, h, k))
+
+-- a sum, and a difference, of numbers within 2^61 is what it is in whole numbers
+pub plus-is : {x y : ℤ} → Within (2 ^ 61) x → Within (2 ^ 61) y → fitted (x +ℤ y) ≡ x +ℤ y
+plus-is {x} {y} h k = fitted-fits (x +ℤ y) (sum-fits x y h k)
+
+pub minus-is : {x y : ℤ} → Within (2 ^ 61) x → Within (2 ^ 61) y → fitted (x -ℤ y) ≡ x -ℤ y
+minus-is {x} {y} h k = fitted-fits (x -ℤ y) (difference-fits x y h k)
 
 pub within-fits : {z : ℤ} → Within (2 ^ 61) z → SFits w64 z
 within-fits {z} h = fits z (up z) (dn z) (omega arith) (omega (arith, h)) (omega (arith, h))

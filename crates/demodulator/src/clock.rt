@@ -1,9 +1,5 @@
 // Slot timing: which slot is current, and when its window closes.
 use crate::State;
-use crate::sums::minus;
-use crate::sums::plus;
-use crate::sums::since;
-use crate::sums::slots_long;
 use dsp_types::SampleCount;
 use dsp_types::TdmaTime;
 ghost use mathlib.Core.Path.{_≡_};
@@ -17,6 +13,13 @@ ghost use Rattle.demodulator.specs.Receiver.{slotReadyFromBegin, setSlot
 ghost use Rattle.demodulator.specs.View.{modeOf, receiverOf};
 ghost use Rattle.demodulator.specs.Bounds.{Within, Timed};
 
+// The samples from the beginning of slot 0 to that of this one.
+fn slots_long(slot: TdmaTime) -> i64
+    ensures { λ r. ⌜ r ≡ pos (slot .0 * 1020) ⌝ }
+{
+    (slot.0 as u64 * 1020) as i64
+}
+
 // Samples from the beginning of a slot to where it is ready to be demodulated.
 fn slot_ready_from_begin(mode: u8) -> i64
     ensures { λ r. ⌜ r ≡ slotReadyFromBegin (modeOf mode) ⌝ }
@@ -29,10 +32,9 @@ pub(crate) fn ready_time(mode: u8, reference: SampleCount, slot: TdmaTime) -> Sa
     requires { ⌜ Within (2 ^ 40) (reference .0) × (slot .0 < slots) ⌝ }
     ensures { λ r. ⌜ r .0 ≡ reference .0 +ℤ pos (slot .0 * 1020) +ℤ slotReadyFromBegin (modeOf mode) ⌝ }
 {
-    plus(
-        plus(reference, slots_long(slot)),
-        slot_ready_from_begin(mode),
-    )
+    reference
+        .plus(slots_long(slot))
+        .plus(slot_ready_from_begin(mode))
 }
 
 // The counter less the filter's delay, less the ready time.
@@ -40,7 +42,7 @@ pub(crate) fn tdiff(counter: SampleCount, ready: SampleCount) -> i64
     requires { ⌜ Within counters (counter .0) × Within (2 ^ 40) (ready .0) ⌝ }
     ensures { λ r. ⌜ r ≡ counter .0 -ℤ pos 16 -ℤ ready .0 ⌝ }
 {
-    since(minus(counter, 16), ready)
+    counter.minus(16).since(ready)
 }
 
 // Lost samples, or another reference time, can put the ready time into the past or far into the future.

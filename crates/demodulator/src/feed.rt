@@ -7,10 +7,6 @@ use crate::process::is_beyond;
 use crate::process::sample_refusal;
 use crate::process::valid_count;
 use crate::process::valid_time;
-use crate::sums::is_before;
-use crate::sums::is_same;
-use crate::sums::plus;
-use crate::sums::since;
 use dsp_types::ACCEPTED;
 use dsp_types::ComplexSample;
 use dsp_types::LAST_COUNTER;
@@ -86,18 +82,18 @@ impl State {
     {
         let reference = self.reference_time;
         let ready = self.slot_ready_time;
-        let reference_stands = is_same(valid_time(reference, FAR_REFERENCE), reference);
-        let ready_stands = is_same(valid_time(ready, FAR_READY), ready);
-        let follows = is_same(self.next_input_sample_count, counter);
+        let reference_stands = valid_time(reference, FAR_REFERENCE).is_same(reference);
+        let ready_stands = valid_time(ready, FAR_READY).is_same(ready);
+        let follows = self.next_input_sample_count.is_same(counter);
         let slot_stands = self.current_slot.0 < SLOTS;
         let misses_stand = self.slots_since_last_valid_burst <= 100;
         if !(reference_stands & ready_stands & follows & slot_stands & misses_stand) {
             return 0;
         }
-        if is_before(counter, SampleCount(0)) | is_before(SampleCount(LAST_QUIET), counter) {
+        if counter.is_before(SampleCount(0)) | SampleCount(LAST_QUIET).is_before(counter) {
             return 0;
         }
-        let left = since(plus(ready, 16), counter);
+        let left = ready.plus(16).since(counter);
         if (left < 1) | (MOST_QUIET < left) {
             return 0;
         }
@@ -158,7 +154,7 @@ impl State {
         while taken < samples.len() / 2 {
             let len = parts_of(samples, taken, s.quiet_samples(counter), &mut x, &mut y);
             if 0 < len {
-                counter = plus(counter, len as i64);
+                counter = counter.plus(len as i64);
                 s = s.keep_all(re, im, abs, &x[..len], &y[..len], counter);
                 taken = taken + len;
             } else {
@@ -177,7 +173,7 @@ impl State {
                 }
                 let heard = s.valid().accept(re, im, abs, input, counter);
                 s = heard.state;
-                counter = plus(counter, 1);
+                counter = counter.plus(1);
                 taken = taken + 1;
                 if heard.handed {
                     return StateFed {

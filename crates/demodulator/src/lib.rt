@@ -5,7 +5,6 @@ mod follow;
 mod listen;
 mod new;
 mod process;
-mod sums;
 mod take;
 mod window;
 

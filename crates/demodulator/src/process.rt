@@ -2,11 +2,6 @@
 use crate::Demodulator;
 use crate::State;
 use crate::clock::tdiff;
-use crate::sums::is_before;
-use crate::sums::is_same;
-use crate::sums::minus;
-use crate::sums::plus;
-use crate::sums::since;
 use crate::window::Heard;
 use dsp_types::ACCEPTED;
 use dsp_types::BAD_COUNTER;
@@ -76,10 +71,10 @@ pub(crate) fn sample_refusal(next: SampleCount, input: ComplexSample, counter: S
     if is_beyond(input.re) | is_beyond(input.im) {
         return BAD_SAMPLE;
     }
-    if is_before(counter, SampleCount(0)) | is_before(SampleCount(LAST_COUNTER), counter) {
+    if counter.is_before(SampleCount(0)) | SampleCount(LAST_COUNTER).is_before(counter) {
         return BAD_COUNTER;
     }
-    if is_before(counter, next) {
+    if counter.is_before(next) {
         return PAST_COUNTER;
     }
     ACCEPTED
@@ -90,7 +85,7 @@ fn missing_samples(next: SampleCount, counter: SampleCount) -> usize
     requires { ⌜ Within counters (next .0) × Counter (counter .0) × (ltZ (counter .0) (next .0) ≡ false) ⌝ }
     ensures { λ r. ⌜ r ≡ missing (counter .0 -ℤ next .0) ⌝ }
 {
-    let lost = dsp_types::unsigned(since(counter, next));
+    let lost = dsp_types::unsigned(counter.since(next));
     if lost < 1020 { lost as usize } else { 1020 }
 }
 
@@ -107,7 +102,7 @@ pub(crate) fn valid_time(t: SampleCount, most: u64) -> SampleCount
 pub(crate) fn valid_count(count: SampleCount) -> SampleCount
     ensures { λ r. ⌜ r .0 ≡ validCount (count .0) ⌝ }
 {
-    if is_before(count, SampleCount(0)) | is_before(SampleCount(LAST_NEXT), count) {
+    if count.is_before(SampleCount(0)) | SampleCount(LAST_NEXT).is_before(count) {
         SampleCount(0)
     } else {
         count
@@ -132,7 +127,7 @@ impl State {
         ensures handed { λ r. ⌜ r .handed ≡ handsOver (windowIf (closes (receiverOf self (now (re .entry)) (now (im .entry)) (now (abs .entry))) (counter .0)) (receiverOf self (now (re .entry)) (now (im .entry)) (now (abs .entry))) (counter .0)) ⌝ }
         ensures state { λ r. ⌜ receiverOf (r .state) (now (re .entry)) (now (im .entry)) (now (abs .entry)) ≡ closeIf (closes (receiverOf self (now (re .entry)) (now (im .entry)) (now (abs .entry))) (counter .0)) (receiverOf self (now (re .entry)) (now (im .entry)) (now (abs .entry))) ⌝ }
     {
-        if is_same(minus(counter, 16), self.slot_ready_time) {
+        if counter.minus(16).is_same(self.slot_ready_time) {
             return self.close_window(re, im, abs);
         }
         Heard {
@@ -175,7 +170,7 @@ impl State {
         let mut left = count;
         while 0 < left {
             let zero = ComplexSample { re: 0.0, im: 0.0 };
-            let heard = d.process_sample(re, im, abs, zero, minus(counter, left as i64));
+            let heard = d.process_sample(re, im, abs, zero, counter.minus(left as i64));
             d = heard.state;
             left = left - 1;
             if heard.handed {
@@ -225,7 +220,7 @@ impl State {
         ensures state { λ r. ⌜ receiverOf (r .state) (now (re .exit)) (now (im .exit)) (now (abs .exit)) ≡ accept (receiverOf self (now (re .entry)) (now (im .entry)) (now (abs .entry))) input (counter .0) ⌝ }
     {
         let mut left = missing_samples(self.next_input_sample_count, counter);
-        let next = plus(counter, 1);
+        let next = counter.plus(1);
         let mut d = self;
         let mut handed = false;
         while 0 < left {
@@ -266,7 +261,7 @@ impl State {
         }
         if 0 < self.quiet_samples(sample_counter) {
             // It is only kept.
-            let count = plus(sample_counter, 1);
+            let count = sample_counter.plus(1);
             let mut kept = self.listen(re, im, abs, input);
             kept.next_input_sample_count = count;
             return StateAnswered {

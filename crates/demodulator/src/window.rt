@@ -4,8 +4,6 @@ use crate::RxBurst;
 use crate::RxSlot;
 use crate::State;
 use crate::new::no_burst;
-use crate::sums::minus;
-use crate::sums::plus;
 use burst_finder::Finding;
 use burst_finder::MAX_ERRS;
 use burst_finder::SlotType;
@@ -89,7 +87,7 @@ fn found_time(ready: SampleCount, place: usize) -> SampleCount
     requires { ⌜ Within (2 ^ 38) (ready .0) × (place ≤ 256) ⌝ }
     ensures { λ r. ⌜ r .0 ≡ ready .0 -ℤ pos 2034 +ℤ pos (place * 2) ⌝ }
 {
-    plus(minus(ready, 2034), (place * 2) as i64)
+    ready.minus(2034).plus((place * 2) as i64)
 }
 
 // The averaged timing error after a slot with this symbol timing, which is to stay near 2: half a symbol of margin
@@ -240,12 +238,12 @@ impl State {
     {
         let mut d = self;
         if 0.5 < d.averaged_timing_error {
-            let later = plus(d.reference_time, 1);
+            let later = d.reference_time.plus(1);
             d.reference_time = later;
             d.averaged_timing_error = d.averaged_timing_error - 1.0;
         }
         if d.averaged_timing_error < -0.5 {
-            let sooner = minus(d.reference_time, 1);
+            let sooner = d.reference_time.minus(1);
             d.reference_time = sooner;
             d.averaged_timing_error = d.averaged_timing_error + 1.0;
         }
@@ -260,7 +258,7 @@ impl State {
         let mode = self.mode;
         match mode {
             1 => {
-                let ready = plus(self.slot_ready_time, 400);
+                let ready = self.slot_ready_time.plus(400);
                 let mut d = self;
                 d.slot_ready_time = ready;
                 d

@@ -69,6 +69,12 @@ ltZ-no (negsuc a) (negsuc b) h = le-ltb b a (omega arith)
 true-ne : true ≡ false → ⊥
 true-ne e = let z : _≡_ {A = ℕ} 0 1 = cc in omega arith
 
+pub ltZ-true : (x y : ℤ) → ltZ x y ≡ true → up x + dn y < up y + dn x
+ltZ-true (pos a) (pos b) e = omega (arith, ltb-true a b e)
+ltZ-true (pos a) (negsuc b) e = absurd (let z : _≡_ {A = ℕ} 0 1 = cc in omega arith)
+ltZ-true (negsuc a) (pos b) e = omega arith
+ltZ-true (negsuc a) (negsuc b) e = omega (arith, ltb-true b a e)
+
 pub ltZ-false : (x y : ℤ) → ltZ x y ≡ false → up y + dn x ≤ up x + dn y
 ltZ-false (pos a) (pos b) e = omega (arith, ltb-false a b e)
 ltZ-false (pos a) (negsuc b) e = omega arith

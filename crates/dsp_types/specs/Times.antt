@@ -1,5 +1,5 @@
--- Slot numbers and rounded quotients (01, "Times"; "What the Rust has that Rattle lacks"). Definitions only.
-use Prim.Native.Nat.{ℕ, zero, suc, _-_, _/_, _%_}
+-- Slot numbers, sums of times and rounded quotients (01, "Times"; "What the Rust has that Rattle lacks"). Definitions only.
+use Prim.Native.Nat.{ℕ, zero, suc, _-_, _/_, _%_, _^_, min}
 use lib.IntN.{ℤ, pos, negsuc}
 
 -- how many slot numbers there are: 4 slots, 18 frames, 60 multiframes, 65,536 hyperframes
@@ -10,6 +10,11 @@ slots = 283115520
 unfoldable pub slotOf : ℤ → ℕ
 slotOf (pos n) = n % slots
 slotOf (negsuc n) = slots - 1 - n % slots
+
+-- a whole number as 64 bits hold it: the nearest that they hold
+unfoldable pub fitted : ℤ → ℤ
+fitted (pos n) = pos (min n (2 ^ 63 - 1))
+fitted (negsuc n) = negsuc (min n (2 ^ 63 - 1))
 
 -- a divisor of 0 counts as 1
 unfoldable pub divisor : ℕ → ℕ

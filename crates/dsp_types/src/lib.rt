@@ -1,4 +1,5 @@
 // What every stage shares: a complex sample, a sample count, a slot number, the smaller of two lengths, and the check of bit bytes.
+mod counts;
 mod refusals;
 
 pub use refusals::ACCEPTED;

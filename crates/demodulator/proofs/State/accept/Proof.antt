@@ -11,10 +11,11 @@ use Rattle.demodulator.specs.Receiver.{Receiver, withNext, processSample
 use Rattle.demodulator.specs.Windows.{handsOver, zerosWindows}
 use Rattle.demodulator.specs.View.{receiverOf}
 use Rattle.demodulator.specs.Bounds.{Timed}
-use Rattle.demodulator.proofs.Signed.{within-pos, counter-within}
+use Rattle.demodulator.proofs.Signed.{plus-is, within-pos, counter-within}
 use Rattle.demodulator.proofs.Samples.{no-zeros}
 use Rattle.demodulator.proofs.Handing.{or-false, or-assoc, no-zeros-hand, accept-hands}
 use Rattle.demodulator.proofs.Doors.{missing-most, missing-below}
+use borrow.Author.Needs.{needs}
 use Rattle.demodulator.proofs.State.accept.Statement.{statement}
 use Rattle.demodulator.proofs.State.accept.Tie as tie
 
@@ -60,7 +61,7 @@ missing-samples-requires c κs =
     (p .next, p .counter, p .later)
 
 plus-requires : tie.Need-plus-requires Inv-loop μ-loop
-plus-requires c κs = (counter-within (start c .pre .counter), within-pos (2 ^ 61) (lit≤ tt))
+plus-requires c κs = search needs
 
 loop-holds : tie.Need-loop-holds Inv-loop μ-loop
 loop-holds c = (omega arith, timed-longer (1021 - c .before .missing-samples .result) (omega (arith, few (c .before))) (start (c .before) .pre .timed), refl, refl)
@@ -133,7 +134,7 @@ returns c =
           ∙ ap (λ (b : Bool). handsOver (zerosWindows k (given s) (s .args .counter .0)) || b) (rw (zeroed t ends) at (r .0))
           ∙ sym (accept-hands (given s) (s .args .input) (s .args .counter .0)),
       ap (λ (q : Receiver). withNext q (u .plus .result .0)) (rw (zeroed t ends) at (r .1))
-          ∙ ap (withNext (processSample (feedZeros k (given s) (s .args .counter .0)) (s .args .input) (s .args .counter .0))) (u .plus .ensures),
+          ∙ ap (withNext (processSample (feedZeros k (given s) (s .args .counter .0)) (s .args .input) (s .args .counter .0))) (u .plus .ensures ∙ plus-is (counter-within (s .pre .counter)) (within-pos {n = 1} (2 ^ 61) (lit≤ tt))),
     )
 
 pub accept-spec : {M : Type 1} → statement M

@@ -4,7 +4,7 @@ use Prim.Native.Nat.{_^_}
 use lib.Dec.{lit≤}
 use Rattle.demodulator.specs.Receiver.{Receiver, closes, closeIf}
 use Rattle.demodulator.specs.View.{receiverOf}
-use Rattle.demodulator.proofs.Signed.{within-pos, counter-within}
+use Rattle.demodulator.proofs.Signed.{minus-is, within-pos, counter-within}
 use Rattle.demodulator.proofs.Steps.{closing}
 use Rattle.demodulator.proofs.Handing.{hands-closed, hands-none}
 use borrow.Author.Needs.{needs}
@@ -16,10 +16,10 @@ receiver s = receiverOf (s .args .self) (s .args .re .now) (s .args .im .now) (s
 
 tested : (c : tie.After-is-same) → c .is-same .result ≡ closes (receiver (c .before .before)) (c .before .before .args .counter .0)
 unfolding closes receiverOf
-tested c = rw (c .is-same .ensures, c .before .minus .ensures)
+tested c = rw (c .is-same .ensures, c .before .minus .ensures, minus-is (counter-within (c .before .before .pre .1)) (within-pos {n = 16} (2 ^ 61) (lit≤ tt)))
 
 minus-requires : tie.Need-minus-requires
-minus-requires c κs = (counter-within (c .pre .1), within-pos (2 ^ 61) (lit≤ tt))
+minus-requires c κs = search needs
 
 is-same-requires : tie.Need-is-same-requires
 is-same-requires c κs = search needs

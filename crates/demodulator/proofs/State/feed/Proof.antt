@@ -17,11 +17,11 @@ use Rattle.demodulator.specs.Bounds.{Within}
 use Rattle.demodulator.proofs.Keeping.{quiet-fewer, kept-block}
 use mathlib.Core.List.{List, _∷_}
 use lib.Dec.{lit≤}
-use lib.IntN.{ℤ, pos}
+use lib.IntN.{ℤ, pos, _+ℤ_}
 use lib.Ieee.{Float}
 use Rattle.demodulator.specs.Valid.{validCount, valid}
 use Rattle.demodulator.specs.Calls.{sampleRefusal}
-use Rattle.demodulator.proofs.Signed.{within-pos, counter-within}
+use Rattle.demodulator.proofs.Signed.{plus-is, within-pos, counter-within}
 use Rattle.demodulator.proofs.Doors.{valid-timed, valid-next, Heard, not-refused}
 use Rattle.demodulator.specs.Feed.{interleaved, feedOf}
 use Rattle.demodulator.specs.View.{receiverOf, Untouched}
@@ -149,9 +149,14 @@ cast-plus : tie.Need-cast-plus Inv-loop μ-loop
 cast-plus c = search needs
 
 plus-requires : tie.Need-plus-requires Inv-loop μ-loop
-plus-requires c κs =
-    let q = quiet c in
-    rw (len-reads c) (counter-low (turn (split c) .loop .counter .0) (q .low) (omega (arith, q .high)), within-pos (2 ^ 61) (omega (arith, split c .parts-of .ensures .0 .1)))
+plus-requires c κs = search needs
+
+-- the counter behind the block
+behind : (c : tie.After-plus Inv-loop μ-loop) → let p = split (c .before) in c .plus .result .0 ≡ turn p .loop .counter .0 +ℤ pos (p .parts-of .result)
+behind c =
+    let i = c .before in
+    let q = quiet i in
+    rw (c .plus .ensures, len-reads i) (plus-is (counter-low (turn (split i) .loop .counter .0) (q .low) (omega (arith, q .high))) (within-pos (2 ^ 61) (omega (arith, split i .parts-of .ensures .0 .1))))
   where
     counter-low : (z : ℤ) → dn z ≤ 0 → up z ≤ 2 ^ 37 → Within (2 ^ 61) z
     counter-low z l h = record { high = omega (arith, h); low = omega (arith, l) }
@@ -195,7 +200,7 @@ loop-again c =
     kept-block (samplesOf (xs p) (ys p)) (interleaved (drop (2 * (l .taken + p .parts-of .result)) (start t .args .samples .now))) _ (l .taken) (receiver t) (l .counter .0)
     (rw n (quiet i)) (p .parts-of .ensures .1 .0) (rw (p .parts-of .ensures .1 .1 .0) at (l .inv .4)) in
     let f = rw n at e in
-    (p .parts-of .ensures .0 .2, l .inv .1, p .parts-of .ensures .1 .1 .1 .0, p .parts-of .ensures .1 .1 .1 .1, rw (c .keep-all .ensures, u .plus .ensures, len-reads i) f, λ z. absurd (omega (arith, i .if1 .taken, z)))
+    (p .parts-of .ensures .0 .2, l .inv .1, p .parts-of .ensures .1 .1 .1 .0, p .parts-of .ensures .1 .1 .1 .1, rw (c .keep-all .ensures, behind u) f, λ z. absurd (omega (arith, i .if1 .taken, z)))
 
 mul-t32 : tie.Need-mul-t32 Inv-loop μ-loop
 mul-t32 c =
@@ -256,7 +261,7 @@ accept-requires c κs =
     rw (valid-read v) (record { timed = valid-timed r; counter = heard v .counter; next = n .within; low = n .low; later = heard v .later })
 
 plus-requires-2 : tie.Need-plus-requires-2 Inv-loop μ-loop
-plus-requires-2 c κs = (counter-within (heard (c .before .before .before .before .before) .counter), within-pos (2 ^ 61) (lit≤ tt))
+plus-requires-2 c κs = search needs
 
 add-taken-2 : tie.Need-add-taken-2 Inv-loop μ-loop
 add-taken-2 c =
@@ -285,7 +290,7 @@ loop-again-2 c =
     let t = turn (parted r) in
     let e =
     at-next _ _ _ _ _ _ (left r) (sym (judged r) ∙ v .before .if2 .left) (after h) (rw (valid-read v) at (h .accept .ensures .1)) (h .accept .result .handed) (rw (valid-read v) at (h .accept .ensures .0)) (c .if3 .left) in
-    (one-more (parted r) .0, t .loop .inv .1, parted r .parts-of .ensures .1 .1 .1 .0, parted r .parts-of .ensures .1 .1 .1 .1, e ∙ ap (λ (z : ℤ). ahead (t .loop .taken + 1) (feedOf (after h) (interleaved (drop (2 * (t .loop .taken + 1)) (start t .args .samples .now))) z)) (sym (p .plus2 .ensures)), λ z. absurd (omega (arith, z)))
+    (one-more (parted r) .0, t .loop .inv .1, parted r .parts-of .ensures .1 .1 .1 .0, parted r .parts-of .ensures .1 .1 .1 .1, e ∙ ap (λ (z : ℤ). ahead (t .loop .taken + 1) (feedOf (after h) (interleaved (drop (2 * (t .loop .taken + 1)) (start t .args .samples .now))) z)) (sym (p .plus2 .ensures ∙ plus-is (counter-within (heard v .counter)) (within-pos {n = 1} (2 ^ 61) (lit≤ tt)))), λ z. absurd (omega (arith, z)))
 
 returns-3 : tie.Need-returns-3 Inv-loop μ-loop
 returns-3 c =

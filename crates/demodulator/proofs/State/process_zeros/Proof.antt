@@ -12,10 +12,11 @@ use Rattle.demodulator.specs.Receiver.{Receiver, processSample, feedZero
 use Rattle.demodulator.specs.Windows.{handsOver, windowOf, zerosWindows}
 use Rattle.demodulator.specs.View.{receiverOf}
 use Rattle.demodulator.specs.Bounds.{Timed, Counter}
-use Rattle.demodulator.proofs.Signed.{within-pos, counter-within}
+use Rattle.demodulator.proofs.Signed.{minus-is, within-pos, counter-within}
 use Rattle.demodulator.proofs.Samples.{one-zero, counter-before}
 use Rattle.demodulator.proofs.Handing.{one-zero-hands}
 use Rattle.demodulator.proofs.Steps.{sample-timed}
+use borrow.Author.Needs.{needs}
 use Rattle.demodulator.proofs.State.process_zeros.Statement.{statement}
 use Rattle.demodulator.proofs.State.process_zeros.Tie as tie
 
@@ -49,16 +50,14 @@ cast-minus : tie.Need-cast-minus Inv-loop μ-loop
 cast-minus c = record { sfits = omega (arith, start (turn c) .pre .most) }
 
 minus-requires : tie.Need-minus-requires Inv-loop μ-loop
-minus-requires c κs =
-    let p = start (turn c) .pre in
-    rw (toZ-pos w64 (turn c .loop .left) (omega (arith, p .most))) (counter-within (p .counter), within-pos (2 ^ 61) (omega (arith, p .most)))
+minus-requires c κs = search needs
 
 -- the counter of this zero
 under : (c : tie.After-minus Inv-loop μ-loop) → let t = turn (c .before) in c .minus .result .0 ≡ start t .args .counter .0 -ℤ pos (t .loop .left)
 under c =
     let t = turn (c .before) in
     let p = start t .pre in
-    rw (c .minus .ensures, toZ-pos w64 (t .loop .left) (omega (arith, p .most)))
+    rw (c .minus .ensures, toZ-pos w64 (t .loop .left) (omega (arith, p .most))) (minus-is (counter-within (p .counter)) (within-pos {n = t .loop .left} (2 ^ 61) (omega (arith, p .most))))
 
 -- that it is one that is not refused
 counts : (c : tie.After-minus Inv-loop μ-loop) → let t = turn (c .before) in Counter (start t .args .counter .0 -ℤ pos (t .loop .left))

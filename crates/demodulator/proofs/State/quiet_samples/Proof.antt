@@ -10,7 +10,7 @@ use Rattle.dsp_types.specs.Times.{slots}
 use Rattle.demodulator.specs.declared.State.{State}
 use Rattle.demodulator.specs.Valid.{validTime, farReference, farReady}
 use Rattle.demodulator.specs.Bounds.{Within}
-use Rattle.demodulator.proofs.Signed.{read, wider, within-pos, within-sum}
+use Rattle.demodulator.proofs.Signed.{read, plus-is, minus-is, wider, within-pos, within-sum}
 use Rattle.demodulator.proofs.Doors.{valid-within}
 use Rattle.demodulator.proofs.Keeping.{lastQuiet, Stand, all-stand, alike, Between, between, quiet-from}
 use borrow.Author.Needs.{needs}
@@ -92,15 +92,16 @@ counter-within c = go (counter (stored c)) (in-count c)
 
 -- how many samples are left before the window closes
 left : (c : tie.After-since) → let s = stored (c .before .before) in c .since .result ≡ self s .«slot_ready_time» .0 +ℤ pos 16 -ℤ counter s
-left c = rw (c .since .ensures, c .before .plus .ensures)
+left c =
+    let r = within-sum _ _ (ready-within (c .before .before)) (within-pos {n = 16} 16 (lit≤ tt)) in
+    rw (c .since .ensures, c .before .plus .ensures, plus-is (wider (2 ^ 61) (lit≤ tt) (ready-within (c .before .before))) (within-pos {n = 16} (2 ^ 61) (lit≤ tt)))
+    (minus-is (wider (2 ^ 61) (lit≤ tt) r) (counter-within (c .before .before)))
 
 plus-requires : tie.Need-plus-requires
-plus-requires c κs = (wider (2 ^ 61) (lit≤ tt) (ready-within c), within-pos (2 ^ 61) (lit≤ tt))
+plus-requires c κs = search needs
 
 since-requires : tie.Need-since-requires
-since-requires c κs =
-    rw (c .plus .ensures)
-    (wider (2 ^ 61) (lit≤ tt) (within-sum _ (pos 16) (ready-within (c .before)) (within-pos {n = 16} 16 (lit≤ tt))), counter-within (c .before))
+since-requires c κs = search needs
 
 returns-3 : tie.Need-returns-3
 returns-3 c = λ h. absurd (omega (arith, h))

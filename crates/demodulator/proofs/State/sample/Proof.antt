@@ -9,7 +9,7 @@ use Rattle.demodulator.specs.Receiver.{Receiver, withClock, withLock, wi
 use Rattle.demodulator.specs.Valid.{validCount, valid}
 use Rattle.demodulator.specs.Calls.{Outcome, sampleRefusal, sampled, sampleOutcome, replyOf}
 use Rattle.demodulator.specs.View.{receiverOf}
-use Rattle.demodulator.proofs.Signed.{within-pos, counter-within}
+use Rattle.demodulator.proofs.Signed.{plus-is, within-pos, counter-within}
 use Rattle.demodulator.proofs.Doors.{valid-timed, valid-next, Heard, not-refused}
 use Rattle.demodulator.proofs.Outcomes.{kept, sample-refused, sample-accepted}
 use Rattle.demodulator.proofs.Keeping.{kept-one}
@@ -63,7 +63,7 @@ quiet-samples-requires : tie.Need-quiet-samples-requires
 quiet-samples-requires c κs = search needs
 
 plus-requires : tie.Need-plus-requires
-plus-requires c κs = (counter-within (heard (c .before .before) .counter), within-pos (2 ^ 61) (lit≤ tt))
+plus-requires c κs = search needs
 
 listen-requires : tie.Need-listen-requires
 listen-requires c κs = search needs
@@ -80,7 +80,7 @@ returns-2 c =
       sym (ap (λ (o : Outcome). o .reply) (goes k)),
       (
         ap (λ (r : Receiver). withNext r (u .plus .result .0)) (c .listen .ensures)
-            ∙ ap (withNext (listen (receiver s) (a .input))) (u .plus .ensures)
+            ∙ ap (withNext (listen (receiver s) (a .input))) (u .plus .ensures ∙ plus-is (counter-within (heard k .counter)) (within-pos {n = 1} (2 ^ 61) (lit≤ tt)))
             ∙ kept-one (receiver s) (a .sample-counter .0) _ (i .if2 .taken) q (a .input)
             ∙ sym (ap (λ (o : Outcome). o .receiver) (goes k)),
         λ n h. absurd (let z : _≡_ {A = ℕ} 0 1 = cc in omega arith),

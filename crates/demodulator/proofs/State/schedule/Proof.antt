@@ -7,7 +7,7 @@ use Rattle.demodulator.specs.declared.Mode.{Mode}
 use Rattle.demodulator.specs.declared.Mode.the-variants.{Idle, DlUnsynchronized, Dl, Ul}
 use Rattle.demodulator.specs.Receiver.{Receiver, withClock, searchOn, nextSlot, schedule}
 use Rattle.demodulator.specs.View.{receiverOf}
-use Rattle.demodulator.proofs.Signed.{wider, within-pos}
+use Rattle.demodulator.proofs.Signed.{plus-is, wider, within-pos}
 use Rattle.demodulator.proofs.Times.{tracked-timed, timed-longer}
 use Rattle.demodulator.proofs.Views.{mode-idle, mode-search, mode-downlink, mode-uplink, searched-on}
 use borrow.Author.Needs.{needs}
@@ -18,8 +18,7 @@ by-mode : (r : Receiver) (m : Mode) → r .mode ≡ m → schedule m r ≡ sched
 by-mode r m e = rw e
 
 plus-requires : tie.Need-plus-requires
-unfolding receiverOf
-plus-requires c κs = (wider (2 ^ 61) (lit≤ tt) (c .before .pre .ready), within-pos (2 ^ 61) (lit≤ tt))
+plus-requires c κs = search needs
 
 track-requires : tie.Need-track-requires
 track-requires c κs = search needs
@@ -35,7 +34,7 @@ returns : tie.Need-returns
 unfolding receiverOf schedule withClock searchOn
 returns c = λ re im abs.
     let s = c .before .before .args .self in
-    searched-on (receiverOf s re im abs) (c .plus .result .0) (c .plus .ensures)
+    searched-on (receiverOf s re im abs) (c .plus .result .0) (c .plus .ensures ∙ plus-is (wider (2 ^ 61) (lit≤ tt) (c .before .before .pre .ready)) (within-pos {n = 400} (2 ^ 61) (lit≤ tt)))
     ∙ by-mode (receiverOf s re im abs) DlUnsynchronized (mode-search (s .mode) (c .before .match .keys1))
 
 returns-2 : tie.Need-returns-2

@@ -4,15 +4,17 @@ use mathlib.Core.Logic.{⊎-elim}
 use mathlib.Core.List.{List, []}
 use Prim.Native.Nat.{_^_}
 use lib.Dec.{lit≤}
+use lib.IntN.{pos}
 use lib.Ieee.{Float}
 use Rattle.timing.specs.Tracking.{late, early}
 use Rattle.demodulator.specs.declared.State.{State}
 use Rattle.demodulator.specs.Receiver.{Receiver, withClock, withLock, trackedLater, trackedSooner}
 use Rattle.demodulator.specs.View.{receiverOf}
-use Rattle.demodulator.proofs.Signed.{wider, within-pos}
+use Rattle.demodulator.proofs.Signed.{plus-is, minus-is, wider, within-pos}
 use Rattle.demodulator.specs.Bounds.{Within}
 use Rattle.demodulator.proofs.Times.{later-within}
 use Rattle.demodulator.proofs.Views.{shifted-later, not-later, shifted-sooner, not-sooner}
+use borrow.Author.Needs.{needs}
 use Rattle.demodulator.proofs.State.track.Statement.{statement}
 use Rattle.demodulator.proofs.State.track.Tie as tie
 
@@ -22,7 +24,7 @@ unfolding receiverOf late withClock withLock
 after-first c re im abs =
     let s = c .before .before .args .self in
     ⊎-elim
-    (λ w. ap (λ (x : State). receiverOf x re im abs) (w .3) ∙ shifted-later (receiverOf s re im abs) _ (w .0 .taken) (w .1 .ensures))
+    (λ w. ap (λ (x : State). receiverOf x re im abs) (w .3) ∙ shifted-later (receiverOf s re im abs) _ (w .0 .taken) (w .1 .ensures ∙ plus-is (wider (2 ^ 61) (lit≤ tt) (c .before .before .pre .reference)) (within-pos {n = 1} (2 ^ 61) (lit≤ tt))))
     (λ w. ap (λ (x : State). receiverOf x re im abs) (w .1) ∙ not-later (receiverOf s re im abs) (w .0 .left))
     (c .if1 .came)
 
@@ -34,17 +36,16 @@ reference-within c =
     (wider (2 ^ 61) (lit≤ tt) (later-within (receiverOf (c .before .before .args .self) [] [] []) (c .before .before .pre .reference)))
 
 plus-requires : tie.Need-plus-requires
-unfolding receiverOf
-plus-requires c κs = (wider (2 ^ 61) (lit≤ tt) (c .before .before .pre .reference), within-pos (2 ^ 61) (lit≤ tt))
+plus-requires c κs = search needs
 
 minus-requires : tie.Need-minus-requires
-minus-requires c κs = (reference-within (c .before .before), record { high = lit≤ tt; low = lit≤ tt })
+minus-requires c κs = search needs
 
 returns : tie.Need-returns
 unfolding receiverOf early withClock withLock
 returns c = λ re im abs.
     let j = c .before .before .before .before in
-    shifted-sooner (receiverOf (j .if1 .d) re im abs) (c .before .minus .result .0) (c .before .before .if2 .taken) (c .before .minus .ensures)
+    shifted-sooner (receiverOf (j .if1 .d) re im abs) (c .before .minus .result .0) (c .before .before .if2 .taken) (c .before .minus .ensures ∙ minus-is {y = pos 1} (reference-within j) (record { high = lit≤ tt; low = lit≤ tt }))
     ∙ ap trackedSooner (after-first j re im abs)
 
 returns-2 : tie.Need-returns-2

@@ -6,25 +6,27 @@ use lib.IntN.{_-ℤ_}
 use lib.Signed.{mag}
 use Rattle.dsp_types.specs.Ints.{up, dn}
 use Rattle.dsp_types.proofs.IntLaws.{ltZ-false}
-use Rattle.demodulator.proofs.Signed.{read, wider, counter-within}
+use Rattle.demodulator.proofs.Signed.{read, minus-is, wider, counter-within}
 use Rattle.demodulator.proofs.Samples.{missing-few, missing-many}
 use borrow.Author.Needs.{needs}
 use Rattle.demodulator.proofs.process.missing_samples.Statement.{statement}
 use Rattle.demodulator.proofs.process.missing_samples.Tie as tie
 use Rattle.demodulator.proofs.process.missing_samples.Reads as reads
 use Rattle.demodulator.proofs.process.missing_samples.Lts as lts
-use Rattle.demodulator.proofs.sums.since.Reads as since-reads
+use Rattle.dsp_types.proofs.SampleCount.since.Reads as since-reads
 use Rattle.dsp_types.proofs.unsigned.Reads as unsigned-reads
 
 lost : (c : tie.After-unsigned) → let a = c .before .before .args in c .unsigned .result ≡ mag (a .counter .0 -ℤ a .next .0)
-lost c = rw (c .unsigned .ensures, read _ (c .before .since .ok), c .before .since .ensures)
+lost c =
+    let p = c .before .before .pre in
+    rw (c .unsigned .ensures, read _ (c .before .since .ok), c .before .since .ensures, minus-is (counter-within (p .1)) (wider (2 ^ 61) (lit≤ tt) (p .0)))
 
 -- the counter is not before the next one
 later : (s : tie.Start) → up (s .args .next .0) + dn (s .args .counter .0) ≤ up (s .args .counter .0) + dn (s .args .next .0)
 later s = ltZ-false (s .args .counter .0) (s .args .next .0) (s .pre .2)
 
 since-requires : tie.Need-since-requires
-since-requires c κs = (counter-within (c .pre .1), wider (2 ^ 61) (lit≤ tt) (c .pre .0))
+since-requires c κs = search needs
 
 unsigned-requires : tie.Need-unsigned-requires
 unsigned-requires c κs = search needs

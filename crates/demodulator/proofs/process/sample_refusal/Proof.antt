@@ -10,7 +10,7 @@ use Rattle.demodulator.proofs.process.sample_refusal.Tie as tie
 use Rattle.demodulator.proofs.process.sample_refusal.Reads as reads
 use Rattle.demodulator.proofs.process.sample_refusal.Lts as lts
 use Rattle.demodulator.proofs.process.is_beyond.Reads as is-beyond-reads
-use Rattle.demodulator.proofs.sums.is_before.Reads as is-before-reads
+use Rattle.dsp_types.proofs.SampleCount.is_before.Reads as is-before-reads
 
 beyonds : (c : tie.After-is-beyond2) → (c .before .is-beyond .result || c .is-beyond2 .result) ≡ (beyond (c .before .before .args .input .re) || beyond (c .before .before .args .input .im))
 beyonds c = rw (c .before .is-beyond .ensures, c .is-beyond2 .ensures)

@@ -1,13 +1,13 @@
--- `sums::slots_long` meets its contract.
+-- `clock::slots_long` meets its contract.
 use Prim.Native.Nat.{_*_}
 use native.Mathlib.Omega.{arith}
 use mir.Syntax.{w64}
 use mir.ValLaws.{toZ-pos}
 use borrow.Author.Needs.{needs}
-use Rattle.demodulator.proofs.sums.slots_long.Statement.{statement}
-use Rattle.demodulator.proofs.sums.slots_long.Tie as tie
-use Rattle.demodulator.proofs.sums.slots_long.Reads as reads
-use Rattle.demodulator.proofs.sums.slots_long.Lts as lts
+use Rattle.demodulator.proofs.clock.slots_long.Statement.{statement}
+use Rattle.demodulator.proofs.clock.slots_long.Tie as tie
+use Rattle.demodulator.proofs.clock.slots_long.Reads as reads
+use Rattle.demodulator.proofs.clock.slots_long.Lts as lts
 
 cast-result : tie.Need-cast-result
 cast-result c = search needs

@@ -1,4 +1,4 @@
--- `sums::is_same` meets its contract: two numbers are the same where their bits are.
+-- `SampleCount::is_same` meets its contract: two numbers are the same where their bits are.
 use mathlib.Core.Path.{_≡_, refl, ap, sym, _∙_}
 use mathlib.Core.Bool.{Bool, true, false}
 use lib.IntN.{ℤ}
@@ -7,11 +7,11 @@ use borrow.Author.Tests.{eqb-true, eqb-false}
 use mir.Syntax.{w64}
 use mir.Val.{SFits, ofZ, toZ}
 use mir.ValLaws.{toZ-ofZ}
 use Rattle.dsp_types.specs.Ints.{eqZ}
 use Rattle.dsp_types.proofs.IntLaws.{eqZ-yes, eqZ-no, parts, same}
 use borrow.Author.Needs.{needs}
-use Rattle.demodulator.proofs.sums.is_same.Statement.{statement}
-use Rattle.demodulator.proofs.sums.is_same.Tie as tie
+use Rattle.dsp_types.proofs.SampleCount.is_same.Statement.{statement}
+use Rattle.dsp_types.proofs.SampleCount.is_same.Tie as tie
 
 bits-same : (x y : ℤ) → SFits w64 x → SFits w64 y → (b : Bool) → eqb (ofZ w64 x) (ofZ w64 y) ≡ b → b ≡ eqZ x y
 bits-same x y f g true e =
@@ -19,7 +19,7 @@ bits-same x y f g true e =
 bits-same x y f g false e =
     sym (eqZ-no x y (λ p. eqb-false (ofZ w64 x) (ofZ w64 y) e (ap (ofZ w64) (same x y p))))
 
-count-fits : (c : tie.After-struct-told2) → SFits w64 (c .before .before .before .before .args .count .0)
+count-fits : (c : tie.After-struct-told2) → SFits w64 (c .before .before .before .before .args .self .0)
 count-fits c = search needs
 
 other-fits : (c : tie.After-struct-told2) → SFits w64 (c .before .before .before .before .args .other .0)
