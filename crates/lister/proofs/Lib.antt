@@ -1,7 +1,6 @@
 mod Appending
 mod Sign
-mod Characters
-mod Blocks
+mod Newline
 mod Judged
 mod Pieces
 mod Example

@@ -11,8 +11,11 @@ use lib.Seq.{append-snoc, take-suc-set, set-at, split-at, length-take-le, take-a
 use borrow.Author.Tests.{ne-eqb}
 use Rattle.dsp_types.specs.Refusals.{wrongLength}
 use Rattle.slotter.specs.Bursts.{refusal}
-use Rattle.lister.specs.Listing.{trimmed, typeOf, wanted, notCharacter, notCharacters, wrongCount, refusalOf, answerOf, printed, listed, listing}
-use Rattle.lister.proofs.Characters.{trimmed-append, or-assoc}
+use Rattle.block_text.specs.BlockText.{typeOf, wanted, notCharacter, notCharacters, wrongCount, refusalOf, answerOf}
+use Rattle.block_text.proofs.Characters.{or-assoc}
+use Rattle.block_text.proofs.Blocks.{wanted-most}
+use Rattle.lister.specs.Listing.{trimmed, printed, listed, listing}
+use Rattle.lister.proofs.Newline.{trimmed-append}
 
 -- room for one more
 pub one-more : (B : List ℕ) (n b : ℕ) → n < length B → (t : List ℕ) → listing (take (n + 1) (set B n b) ++ t) ≡ listing (take n B ++ (b ∷ t))
@@ -25,14 +28,6 @@ unfolding trimmed
 trimmed-length [] = omega arith
 trimmed-length (x ∷ []) = omega arith
 trimmed-length (x ∷ y ∷ xs) = omega (arith, trimmed-length (y ∷ xs))
-
-wanted-most : (k : ℕ) → wanted k ≤ 462
-unfolding wanted
-wanted-most k = go (eqb k 4)
-  where
-    go : (b : Bool) → cond b 366 462 ≤ 462
-    go true = omega arith
-    go false = omega arith
 
 refused-count : (k : ℕ) (xs : List ℕ) → (k ≡ 0 → ⊥) → 464 ≤ length xs → answerOf k (trimmed xs) ≡ refusal 3
 unfolding answerOf refusalOf wrongCount wrongLength

@@ -122,7 +122,7 @@ impl Sender {
     }
 
     fn burst(self, kind: u32, characters: &[u8]) -> Sender {
-        let burst = lister::answer(kind, characters);
+        let burst = block_text::answer(kind, characters);
         let answer = burst.answer;
         let bits = burst.bits;
         match answer {

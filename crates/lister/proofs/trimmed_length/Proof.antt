@@ -1,7 +1,7 @@
 -- `lister::trimmed_length` meets its contract: by the last byte.
 use native.Mathlib.Omega.{arith}
 use borrow.Author.Needs.{needs}
-use Rattle.lister.proofs.Characters.{trim-none, trim-newline, trim-other}
+use Rattle.lister.proofs.Newline.{trim-none, trim-newline, trim-other}
 use Rattle.lister.proofs.trimmed_length.Statement.{statement}
 use Rattle.lister.proofs.trimmed_length.Tie as tie
 

@@ -1,8 +1,8 @@
--- `lister::wanted_length` meets its contract: its test is the definition's.
+-- `block_text::wanted_length` meets its contract: its test is the definition's.
 use borrow.Author.Tests.{eq-eqb, ne-eqb}
-use Rattle.lister.specs.Listing.{wanted}
-use Rattle.lister.proofs.wanted_length.Statement.{statement}
-use Rattle.lister.proofs.wanted_length.Tie as tie
+use Rattle.block_text.specs.BlockText.{wanted}
+use Rattle.block_text.proofs.wanted_length.Statement.{statement}
+use Rattle.block_text.proofs.wanted_length.Tie as tie
 
 returns : tie.Need-returns
 unfolding wanted

@@ -8,16 +8,16 @@ use lib.Dec.{eqb}
 use lib.ListN.{length, take, drop, length-map}
 use borrow.Author.Tests.{eq-eqb, ne-eqb}
 use Rattle.slotter.specs.Bursts.{syncBurst, normalBurst}
-use Rattle.lister.specs.Listing.{wanted, bitOf, burstOf}
-use Rattle.lister.proofs.Characters.{part, rest}
+use Rattle.block_text.specs.BlockText.{wanted, bitOf, burstOf}
+use Rattle.block_text.proofs.Characters.{part, rest}
 
-pub wanted-most : (kind : ℕ) (cs : List ℕ) → length cs ≡ wanted kind → length cs ≤ 462
+pub wanted-most : (type : ℕ) → wanted type ≤ 462
 unfolding wanted
-wanted-most kind cs e = go (eqb kind 4) e
+wanted-most type = go (eqb type 4)
   where
-    go : (b : Bool) → length cs ≡ cond b 366 462 → length cs ≤ 462
-    go true h = omega arith
-    go false h = omega arith
+    go : (b : Bool) → cond b 366 462 ≤ 462
+    go true = omega arith
+    go false = omega arith
 
 pub sync-blocks : {w : List ℕ} (kind : ℕ) (cs z : List ℕ) → kind ≡ 4 → length cs ≡ wanted kind → w ≡ map bitOf cs ++ z
     → syncBurst (take 120 w) (take 30 (drop 120 w)) (take 216 (drop 150 w)) ≡ burstOf kind (map bitOf cs)

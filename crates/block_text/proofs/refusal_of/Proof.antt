@@ -1,10 +1,10 @@
--- `lister::refusal_of` meets its contract: its tests are the definition's, in the same order.
+-- `block_text::refusal_of` meets its contract: its tests are the definition's, in the same order.
 use mathlib.Core.Path.{sym, _∙_}
 use borrow.Author.Needs.{needs}
 use borrow.Author.Tests.{eq-eqb, ne-eqb}
-use Rattle.lister.specs.Listing.{refusalOf}
-use Rattle.lister.proofs.refusal_of.Statement.{statement}
-use Rattle.lister.proofs.refusal_of.Tie as tie
+use Rattle.block_text.specs.BlockText.{refusalOf}
+use Rattle.block_text.proofs.refusal_of.Statement.{statement}
+use Rattle.block_text.proofs.refusal_of.Tie as tie
 
 wrong-length-requires : tie.Need-wrong-length-requires
 wrong-length-requires c κs = search needs

@@ -1,13 +1,14 @@
--- `lister::burst_of` meets its contract: the parts of the bits are the blocks.
+-- `block_text::burst_of` meets its contract: the parts of the bits are the blocks.
 use mathlib.Core.Path.{_∙_}
+use native.Mathlib.Omega.{arith}
 use lib.ListN.{length, drop, replicate}
 use borrow.Author.Needs.{needs}
-use Rattle.lister.proofs.Blocks.{wanted-most, sync-blocks, normal-blocks}
-use Rattle.lister.proofs.burst_of.Statement.{statement}
-use Rattle.lister.proofs.burst_of.Tie as tie
+use Rattle.block_text.proofs.Blocks.{wanted-most, sync-blocks, normal-blocks}
+use Rattle.block_text.proofs.burst_of.Statement.{statement}
+use Rattle.block_text.proofs.burst_of.Tie as tie
 
 bits-of-requires : tie.Need-bits-of-requires
-bits-of-requires c κs = wanted-most (c .before .args .kind) (c .before .args .characters .now) (c .before .pre)
+bits-of-requires c κs = omega (arith, c .before .pre, wanted-most (c .before .args .kind))
 
 slice-aggregate-bits : tie.Need-slice-aggregate-bits
 slice-aggregate-bits c = search needs

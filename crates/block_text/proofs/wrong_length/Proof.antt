@@ -1,9 +1,9 @@
--- `lister::wrong_length` meets its contract: its test is the definition's.
+-- `block_text::wrong_length` meets its contract: its test is the definition's.
 use borrow.Author.Needs.{needs}
 use Rattle.dsp_types.specs.Refusals.{wrongLength}
-use Rattle.lister.specs.Listing.{wrongCount}
-use Rattle.lister.proofs.wrong_length.Statement.{statement}
-use Rattle.lister.proofs.wrong_length.Tie as tie
+use Rattle.block_text.specs.BlockText.{wrongCount}
+use Rattle.block_text.proofs.wrong_length.Statement.{statement}
+use Rattle.block_text.proofs.wrong_length.Tie as tie
 
 wanted-length-requires : tie.Need-wanted-length-requires
 wanted-length-requires c κs = search needs

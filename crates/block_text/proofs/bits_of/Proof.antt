@@ -1,14 +1,14 @@
--- `lister::bits_of` meets its contract: each turn is `bit-more`.
+-- `block_text::bits_of` meets its contract: each turn is `bit-more`.
 use mathlib.Core.Path.{_≡_, refl, _∙_}
 use mathlib.Core.List.{_++_, map}
 use Prim.Native.Nat.{_≤_, _<_, _-_}
 use native.Mathlib.Omega.{arith}
 use lib.ListN.{length, take, drop, replicate}
 use borrow.Author.Needs.{needs}
-use Rattle.lister.specs.Listing.{bitOf}
-use Rattle.lister.proofs.Characters.{bit-more, bit-none}
-use Rattle.lister.proofs.bits_of.Statement.{statement}
-use Rattle.lister.proofs.bits_of.Tie as tie
+use Rattle.block_text.specs.BlockText.{bitOf}
+use Rattle.block_text.proofs.Characters.{bit-more, bit-none}
+use Rattle.block_text.proofs.bits_of.Statement.{statement}
+use Rattle.block_text.proofs.bits_of.Tie as tie
 
 abbrev Inv-loop : tie.InvT-loop
 Inv-loop characters bits₀ i₀ i-end bits i = (i ≤ length characters) × (i-end ≡ length characters) × (bits ≡ take i (map bitOf characters) ++ drop i (replicate 462 0))

@@ -1,10 +1,10 @@
--- `lister::answer` meets its contract: characters are refused, or make a burst, as the definition judges them.
+-- `block_text::answer` meets its contract: characters are refused, or make a burst, as the definition judges them.
 use mathlib.Core.Path.{sym, _∙_}
 use Rattle.slotter.specs.Bursts.{told, refusal}
-use Rattle.lister.proofs.Judged.{refuses, accepts, right-count}
+use Rattle.block_text.proofs.Judged.{refuses, accepts, right-count}
 use borrow.Author.Needs.{needs}
-use Rattle.lister.proofs.answer.Statement.{statement}
-use Rattle.lister.proofs.answer.Tie as tie
+use Rattle.block_text.proofs.answer.Statement.{statement}
+use Rattle.block_text.proofs.answer.Tie as tie
 
 refusal-of-requires : tie.Need-refusal-of-requires
 refusal-of-requires c κs = search needs

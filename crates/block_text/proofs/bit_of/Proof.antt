@@ -1,8 +1,8 @@
--- `lister::bit_of` meets its contract: its test is the definition's.
+-- `block_text::bit_of` meets its contract: its test is the definition's.
 use borrow.Author.Tests.{eq-eqb, ne-eqb}
-use Rattle.lister.specs.Listing.{bitOf}
-use Rattle.lister.proofs.bit_of.Statement.{statement}
-use Rattle.lister.proofs.bit_of.Tie as tie
+use Rattle.block_text.specs.BlockText.{bitOf}
+use Rattle.block_text.proofs.bit_of.Statement.{statement}
+use Rattle.block_text.proofs.bit_of.Tie as tie
 
 returns : tie.Need-returns
 unfolding bitOf

@@ -1,13 +1,13 @@
--- `lister::not_characters` meets its contract. The loop's invariant: what was found, or is found from here on, is found in all.
+-- `block_text::not_characters` meets its contract. The loop's invariant: what was found, or is found from here on, is found in all.
 use mathlib.Core.Path.{_≡_, refl}
 use mathlib.Core.Bool.{_||_}
 use Prim.Native.Nat.{_≤_, _-_}
 use lib.ListN.{length, drop}
 use borrow.Author.Needs.{needs}
-use Rattle.lister.specs.Listing.{notCharacters}
-use Rattle.lister.proofs.Characters.{one-more, no-more}
-use Rattle.lister.proofs.not_characters.Statement.{statement}
-use Rattle.lister.proofs.not_characters.Tie as tie
+use Rattle.block_text.specs.BlockText.{notCharacters}
+use Rattle.block_text.proofs.Characters.{one-more, no-more}
+use Rattle.block_text.proofs.not_characters.Statement.{statement}
+use Rattle.block_text.proofs.not_characters.Tie as tie
 
 abbrev Inv-loop : tie.InvT-loop
 Inv-loop characters found₀ i₀ i-end found i = (i ≤ length characters) × (i-end ≡ length characters) × (notCharacters characters ≡ (found || notCharacters (drop i characters)))

@@ -1,8 +1,8 @@
--- `lister::type_of` meets its contract: its tests are the definition's.
+-- `block_text::type_of` meets its contract: its tests are the definition's.
 use borrow.Author.Tests.{eq-eqb, ne-eqb}
-use Rattle.lister.specs.Listing.{typeOf}
-use Rattle.lister.proofs.type_of.Statement.{statement}
-use Rattle.lister.proofs.type_of.Tie as tie
+use Rattle.block_text.specs.BlockText.{typeOf}
+use Rattle.block_text.proofs.type_of.Statement.{statement}
+use Rattle.block_text.proofs.type_of.Tie as tie
 
 returns : tie.Need-returns
 unfolding typeOf

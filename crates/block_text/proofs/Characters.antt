@@ -1,15 +1,14 @@
--- The characters of an input: what the code's loops and parts make of them, for any number of them.
+-- The characters of blocks: what the code's loops and parts make of them, for any number of them.
 use mathlib.Core.Path.{_≡_, refl, sym, ap, _∙_}
 use mathlib.Core.Bool.{Bool, true, false, _||_}
-use mathlib.Core.List.{List, [], _∷_, _++_, map, append-nil}
-use Prim.Native.Nat.{ℕ, suc, _+_, _-_, _≤_, _<_}
+use mathlib.Core.List.{List, _++_, map}
+use Prim.Native.Nat.{ℕ, suc, _+_, _≤_, _<_}
 use native.Mathlib.Nat.{zero-add}
 use native.Mathlib.Numerals.{add-one}
 use native.Mathlib.Omega.{arith}
 use lib.ListN.{length, take, drop, getD, set, length-map, List·getD-map, drop-of-length-le, length-drop}
-use lib.Seq.{drop-cons, paste-suc, take-append-le, drop-append-le, split-at, take-all, take-length}
-use borrow.Author.Tests.{eq-eqb, ne-eqb}
-use Rattle.lister.specs.Listing.{trimmed, notCharacter, notCharacters, bitOf}
+use lib.Seq.{drop-cons, paste-suc, take-append-le, drop-append-le, take-all}
+use Rattle.block_text.specs.BlockText.{notCharacter, notCharacters, bitOf}
 
 -- ---- one more character is looked at
 
@@ -29,42 +28,6 @@ one-more cs found i h e = e ∙ rw (drop-cons cs i 0 h, add-one i) (or-assoc fou
 pub no-more : (cs : List ℕ) (found : Bool) (i : ℕ) → length cs ≤ i → notCharacters cs ≡ (found || notCharacters (drop i cs)) → found ≡ notCharacters cs
 unfolding notCharacters
 no-more cs found i h e = sym (e ∙ rw (drop-of-length-le cs h) (or-none found))
-
--- ---- the closing newline
-
-pub trimmed-append : (xs : List ℕ) (c : ℕ) (t : List ℕ) → trimmed (xs ++ (c ∷ t)) ≡ xs ++ trimmed (c ∷ t)
-unfolding trimmed
-trimmed-append [] c t = refl
-trimmed-append (x ∷ []) c t = refl
-trimmed-append (x ∷ y ∷ xs) c t = ap (λ (r : List ℕ). x ∷ r) (trimmed-append (y ∷ xs) c t)
-
-above : (l : List ℕ) → (length l ≡ 0 → ⊥) → 0 < length l
-above [] h = absurd (h refl)
-above (x ∷ l) h = omega arith
-
-last-split : (l : List ℕ) → 0 < length l → l ≡ take (length l - 1) l ++ (getD l (length l - 1) 0 ∷ [])
-last-split l h =
-    split-at l (length l - 1) 0 (omega arith)
-    ∙ ap (λ (r : List ℕ). take (length l - 1) l ++ (getD l (length l - 1) 0 ∷ r)) (drop-of-length-le l {i = suc (length l - 1)} (omega arith))
-
-pub trim : (l : List ℕ) → 0 < length l → trimmed l ≡ take (length l - 1) l ++ trimmed (getD l (length l - 1) 0 ∷ [])
-trim l h = ap trimmed (last-split l h) ∙ trimmed-append (take (length l - 1) l) (getD l (length l - 1) 0) []
-
-pub trim-none : (l : List ℕ) → length l ≡ 0 → [] ≡ trimmed l
-unfolding trimmed
-trim-none [] e = refl
-trim-none (x ∷ l) e = absurd (omega arith)
-
-pub trim-newline : (l : List ℕ) → (length l ≡ 0 → ⊥) → getD l (length l - 1) 0 ≡ 10 → take (length l - 1) l ≡ trimmed l
-unfolding trimmed
-trim-newline l h e =
-    sym (trim l (above l h) ∙ rw (eq-eqb (getD l (length l - 1) 0) 10 e) (append-nil (take (length l - 1) l)))
-
-pub trim-other : (l : List ℕ) → (length l ≡ 0 → ⊥) → (getD l (length l - 1) 0 ≡ 10 → ⊥) → take (length l) l ≡ trimmed l
-unfolding trimmed
-trim-other l h e =
-    take-length l
-    ∙ sym (trim l (above l h) ∙ rw (ne-eqb (getD l (length l - 1) 0) 10 e) (sym (last-split l (above l h))))
 
 -- ---- the bits
 
