@@ -1,4 +1,4 @@
-mod Appending
+mod Short
 mod Sign
 mod Newline
 mod Judged

@@ -6,112 +6,69 @@ use slotter::Answer;
 use slotter::Burst;
 use text::Text;
 ghost use mathlib.Core.Path.{_≡_};
-ghost use Prim.Native.Nat.{ℕ, _+_, _≤_};
+ghost use Prim.Native.Nat.{ℕ, _≤_};
 ghost use mathlib.Core.List.{List, [], _∷_, _++_};
-ghost use lib.IntN.{natAbs};
 ghost use lib.ListN.{length, take};
 ghost use Rattle.io.specs.Counts.{Counts};
-ghost use Rattle.text.specs.Text.{textOf, decimal, characterOf};
+ghost use Rattle.text.specs.Text.{textOf, cut};
 ghost use Rattle.slotter.specs.Bursts.{told};
 ghost use Rattle.lister.specs.Listing.{signed, nameOf, trimmed, refusalLine, burstLines, printed, listing};
 ghost use Rattle.lister.specs.Inputs.{inputOf};
 
-// The text with the bytes s behind it.
-fn append(t: Text, s: &[u8]) -> Text
-    requires { ⌜ t .len + length (now s) ≤ 128 ⌝ }
-    ensures { λ r. ⌜ (r .len ≡ t .len + length (now (s .entry))) × Counts (r .len) (r .bytes) × (textOf r ≡ textOf t ++ now (s .entry)) ⌝ }
-{
-    t.append(s)
-}
-
-// The text with a number in decimal behind it.
-fn append_decimal(t: Text, n: u64) -> Text
-    requires { ⌜ t .len + 20 ≤ 128 ⌝ }
-    ensures { λ r. ⌜ (r .len ≤ t .len + 20) × (textOf r ≡ textOf t ++ decimal 20 n) ⌝ }
-{
-    t.decimal(n)
-}
-
-// A number without its sign.
-fn size(n: i32) -> u64
-    ensures { λ r. ⌜ r ≡ natAbs n ⌝ }
-{
-    if n < 0 { (-1 - n) as u64 + 1 } else { n as u64 }
-}
-
 // The text with a whole number in decimal behind it.
-fn append_signed(t: Text, n: i32) -> Text
-    requires { ⌜ t .len + 21 ≤ 128 ⌝ }
-    ensures { λ r. ⌜ (r .len ≤ t .len + 21) × (textOf r ≡ textOf t ++ signed n) ⌝ }
+fn with_signed(text: Text, n: i32) -> Text
+    ensures { λ r. ⌜ textOf r ≡ cut (textOf text ++ signed n) ⌝ }
 {
     if n < 0 {
-        append_decimal(append(t, b"-"), size(n))
+        text.append(b"-").decimal((-1 - n) as u64 + 1)
     } else {
-        append_decimal(t, size(n))
+        text.decimal(n as u64)
     }
 }
 
 // The text with a type's name behind it.
-fn append_name(t: Text, kind: u32) -> Text
-    requires { ⌜ t .len + 7 ≤ 128 ⌝ }
-    ensures { λ r. ⌜ (r .len ≤ t .len + 7) × (textOf r ≡ textOf t ++ nameOf kind) ⌝ }
+fn with_name(text: Text, kind: u32) -> Text
+    ensures { λ r. ⌜ textOf r ≡ cut (textOf text ++ nameOf kind) ⌝ }
 {
     if kind == 4 {
-        append(t, b"sync")
+        text.append(b"sync")
     } else if kind == 1 {
-        append(t, b"normal1")
+        text.append(b"normal1")
     } else {
-        append(t, b"normal2")
+        text.append(b"normal2")
     }
-}
-
-// The text with `lead`, a window's sum, `mid` and its adjustment bits behind it.
-fn append_window(t: Text, lead: &[u8], sum: i32, mid: &[u8], first: u8, second: u8) -> Text
-    requires { ⌜ t .len + length (now lead) + length (now mid) + 23 ≤ 128 ⌝ }
-    ensures { λ r. ⌜ (r .len ≤ t .len + length (now (lead .entry)) + length (now (mid .entry)) + 23) × (textOf r ≡ textOf t ++ now (lead .entry) ++ signed sum ++ now (mid .entry) ++ (characterOf first ∷ characterOf second ∷ [])) ⌝ }
-{
-    let with_sum = append_signed(append(t, lead), sum);
-    let bits = [text::character_of(first), text::character_of(second)];
-    append(append(with_sum, mid), &bits)
 }
 
 // What is printed of a refusal.
 fn refused(number: u32) -> Text
-    ensures { λ r. ⌜ Counts (r .len) (r .bytes) × (textOf r ≡ refusalLine number) ⌝ }
+    ensures { λ r. ⌜ Counts (r .len) (r .bytes) × (textOf r ≡ cut (refusalLine number)) ⌝ }
 {
-    append(
-        append_decimal(append(Text::new(), b"refused="), number as u64),
-        b"\n",
-    )
+    Text::new()
+        .append(b"refused=")
+        .decimal(number as u64)
+        .append(b"\n")
 }
 
 // What is printed of a burst.
-fn built(kind: u32, first: i32, last: i32, bits: [u8; 510]) -> Text
-    ensures { λ r. ⌜ Counts (r .len) (r .bytes) × (textOf r ≡ burstLines kind first last bits) ⌝ }
+fn built(kind: u32, first: i32, last: i32, burst: [u8; 510]) -> Text
+    ensures { λ r. ⌜ Counts (r .len) (r .bytes) × (textOf r ≡ cut (burstLines kind first last burst)) ⌝ }
 {
-    let named = append_name(append(Text::new(), b"kind="), kind);
-    let one = append_window(
-        named,
-        b"\nsum_first=",
-        first,
-        b"\nadj_first=",
-        bits[12],
-        bits[13],
-    );
-    let both = append_window(
-        one,
-        b"\nsum_last=",
-        last,
-        b"\nadj_last=",
-        bits[498],
-        bits[499],
-    );
-    append(both, b"\n")
+    let bits: &[u8] = &burst;
+    let adj_first = &bits[12..14];
+    let adj_last = &bits[498..500];
+    let named = with_name(Text::new().append(b"kind="), kind);
+    let one = with_signed(named.append(b"\nsum_first="), first)
+        .append(b"\nadj_first=")
+        .bits(adj_first);
+    with_signed(one.append(b"\nsum_last="), last)
+        .append(b"\nadj_last=")
+        .bits(adj_last)
+        .append(b"\n")
 }
 
 // What is printed of an answer to a letter of that type.
 fn print(kind: u32, burst: Burst) -> Text
-    ensures { λ r. ⌜ Counts (r .len) (r .bytes) × (textOf r ≡ printed kind (told burst)) ⌝ }
+    ensures { λ r. ⌜ Counts (r .len) (r .bytes) × (textOf r ≡ cut (printed kind (told burst))) ⌝ }
 {
     let answer = burst.answer;
     let bits = burst.bits;
@@ -133,8 +90,8 @@ fn trimmed_length(input: &[u8]) -> usize
 }
 
 // The listing of an input of any length.
-pub fn listing(input: &[u8]) -> Text
-    ensures { λ r. ⌜ Counts (r .len) (r .bytes) × (textOf r ≡ listing (now (input .entry))) ⌝ }
+fn listing(input: &[u8]) -> Text
+    ensures { λ r. ⌜ Counts (r .len) (r .bytes) × (textOf r ≡ cut (listing (now (input .entry)))) ⌝ }
 {
     let n = trimmed_length(input);
     if n == 0 {
@@ -203,11 +160,6 @@ impl Input {
         ensures { λ r. ⌜ Counts (r .len) (r .bytes) × (textOf r ≡ listing (inputOf self)) ⌝ }
     {
         let bytes = self.bytes;
-        let len = self.len;
-        if len < 465 {
-            listing(&bytes[0..len])
-        } else {
-            listing(&bytes[0..465])
-        }
+        listing(text::front(&bytes, self.len))
     }
 }

@@ -1,8 +1,9 @@
 -- `lister::listing` meets its contract: the trimmed input is a letter and its characters, judged as the definition judges them.
-use mathlib.Core.Path.{_≡_, sym, _∙_}
+use mathlib.Core.Path.{_≡_, sym, ap, _∙_}
 use mathlib.Core.List.{_∷_}
 use Prim.Native.Nat.{_-_}
 use lib.ListN.{getD, take, drop}
+use Rattle.text.specs.Text.{cut}
 use borrow.Author.Needs.{needs}
 use Rattle.lister.specs.Listing.{trimmed}
 use Rattle.lister.proofs.Judged.{letter-first, none, prints}
@@ -23,7 +24,7 @@ refused-requires : tie.Need-refused-requires
 refused-requires c κs = search needs
 
 returns : tie.Need-returns
-returns c = let t = c .before .before in (c .refused .ensures .0, c .refused .ensures .1 ∙ none (t .before .before .args .input .now) (t .trimmed-length .ensures .1) (c .before .if1 .taken))
+returns c = let t = c .before .before in (c .refused .ensures .0, c .refused .ensures .1 ∙ ap cut (none (t .before .before .args .input .now) (t .trimmed-length .ensures .1) (c .before .if1 .taken)))
 
 shared-slice-read-type-of : tie.Need-shared-slice-read-type-of
 shared-slice-read-type-of c = search needs
@@ -49,7 +50,7 @@ print-requires c κs = search needs
 returns-2 : tie.Need-returns-2
 returns-2 c =
     let e = c .before .before .before .before .before in
-    (c .print .ensures .0, c .print .ensures .1 ∙ prints (e .before .before .before .args .input .now) _ (split e) (c .before .before .before .type-of .ensures) (c .before .answer .ensures))
+    (c .print .ensures .0, c .print .ensures .1 ∙ ap cut (prints (e .before .before .before .args .input .now) _ (split e) (c .before .before .before .type-of .ensures) (c .before .answer .ensures)))
 
 pub listing-spec : {M : Type 1} → statement M
 listing-spec =

@@ -1,11 +1,10 @@
--- `lister::append_name` meets its contract: its tests are the definition's.
-use native.Mathlib.Omega.{arith}
-use borrow.Author.Needs.{needs}
+-- `lister::with_name` meets its contract: its tests are the definition's.
 use borrow.Author.Tests.{eq-eqb, ne-eqb}
 use Rattle.text.specs.Text.{ascii}
 use Rattle.lister.specs.Listing.{nameOf}
-use Rattle.lister.proofs.append_name.Statement.{statement}
-use Rattle.lister.proofs.append_name.Tie as tie
+use borrow.Author.Needs.{needs}
+use Rattle.lister.proofs.with_name.Statement.{statement}
+use Rattle.lister.proofs.with_name.Tie as tie
 
 slice-aggregate-append : tie.Need-slice-aggregate-append
 slice-aggregate-append c = search needs
@@ -27,22 +26,22 @@ append-requires-3 c κs = search needs
 
 returns : tie.Need-returns
 unfolding nameOf ascii
-returns c = (omega (arith, c .append .ensures .0), rw (eq-eqb (c .before .before .before .args .kind) 4 (c .before .before .if1 .taken)) (c .append .ensures .2))
+returns c = rw (eq-eqb (c .before .before .before .args .kind) 4 (c .before .before .if1 .taken)) (c .append .ensures .0)
 
 returns-2 : tie.Need-returns-2
 unfolding nameOf ascii
 returns-2 c =
     let k = c .before .before .before .before .args .kind in
-    (omega (arith, c .append2 .ensures .0), rw (ne-eqb k 4 (c .before .before .before .if1 .left), eq-eqb k 1 (c .before .before .if2 .taken)) (c .append2 .ensures .2))
+    rw (ne-eqb k 4 (c .before .before .before .if1 .left), eq-eqb k 1 (c .before .before .if2 .taken)) (c .append2 .ensures .0)
 
 returns-3 : tie.Need-returns-3
 unfolding nameOf ascii
 returns-3 c =
     let k = c .before .before .before .before .args .kind in
-    (omega (arith, c .append3 .ensures .0), rw (ne-eqb k 4 (c .before .before .before .if1 .left), ne-eqb k 1 (c .before .before .if2 .left)) (c .append3 .ensures .2))
+    rw (ne-eqb k 4 (c .before .before .before .if1 .left), ne-eqb k 1 (c .before .before .if2 .left)) (c .append3 .ensures .0)
 
-pub append-name-spec : {M : Type 1} → statement M
-append-name-spec =
+pub with-name-spec : {M : Type 1} → statement M
+with-name-spec =
     tie.close
     (tie.spec
     slice-aggregate-append
