@@ -117,8 +117,8 @@ impl Input {
         }
     }
 
-    // One byte more. 465 bytes are too many for each of the three letters, so nothing behind them counts. Behind
-    // another letter what counts is the last byte and whether one before it was other than 0 and 1.
+    // One byte more. 465 bytes are too many for each of the three letters. Behind another letter what counts is the
+    // last byte and whether one before it was other than 0 and 1.
     fn push(self, b: u8) -> Input
         ensures { λ r. ⌜ ((t : List ℕ) → listing (inputOf r ++ t) ≡ listing (inputOf self ++ (b ∷ t))) ⌝ }
     {
@@ -127,21 +127,16 @@ impl Input {
         if len < 465 {
             bytes[len] = b;
             return Input {
-                bytes: bytes,
+                bytes,
                 len: len + 1,
             };
         }
-        if type_of(bytes[0]) == 0 {
-            let last = bytes[464];
-            if not_character(last) {
-                bytes[1] = last;
-            }
-            bytes[464] = b;
+        let last = bytes[464];
+        if not_character(last) {
+            bytes[1] = last;
         }
-        Input {
-            bytes: bytes,
-            len: len,
-        }
+        bytes[464] = b;
+        Input { bytes, len }
     }
 
     // A piece more.

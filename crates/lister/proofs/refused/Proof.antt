@@ -8,24 +8,6 @@ use borrow.Author.Needs.{needs}
 use Rattle.lister.proofs.refused.Statement.{statement}
 use Rattle.lister.proofs.refused.Tie as tie
 
-new-requires : tie.Need-new-requires
-new-requires c κs = search needs
-
-slice-aggregate-append : tie.Need-slice-aggregate-append
-slice-aggregate-append c = search needs
-
-append-requires : tie.Need-append-requires
-append-requires c κs = search needs
-
-decimal-requires : tie.Need-decimal-requires
-decimal-requires c κs = search needs
-
-slice-aggregate-append-2 : tie.Need-slice-aggregate-append-2
-slice-aggregate-append-2 c = search needs
-
-append-requires-2 : tie.Need-append-requires-2
-append-requires-2 c κs = search needs
-
 returns : tie.Need-returns
 unfolding ascii refusalLine
 returns c =
@@ -39,10 +21,10 @@ pub refused-spec : {M : Type 1} → statement M
 refused-spec =
     tie.close
     (tie.spec
-    new-requires
-    slice-aggregate-append
-    append-requires
-    decimal-requires
-    slice-aggregate-append-2
-    append-requires-2
+    (λ c κs. search needs)
+    (λ c. search needs)
+    (λ c κs. search needs)
+    (λ c κs. search needs)
+    (λ c. search needs)
+    (λ c κs. search needs)
     returns)
