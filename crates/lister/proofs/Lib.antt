@@ -1,6 +1,5 @@
 mod Short
 mod Sign
-mod Newline
 mod Judged
 mod Pieces
 mod Example

@@ -11,23 +11,18 @@ use lib.Seq.{append-snoc, take-suc-set, set-at, split-at, length-take-le, take-a
 use borrow.Author.Tests.{ne-eqb}
 use Rattle.dsp_types.specs.Refusals.{wrongLength}
 use Rattle.slotter.specs.Bursts.{refusal}
+use Rattle.text.specs.Text.{trimmed}
+use Rattle.text.proofs.Trimming.{trimmed-append, trimmed-length}
 use Rattle.block_text.specs.BlockText.{typeOf, wanted, notCharacter, notCharacters, wrongCount, refusalOf, answerOf}
 use Rattle.block_text.proofs.Characters.{or-assoc}
 use Rattle.block_text.proofs.Blocks.{wanted-most}
-use Rattle.lister.specs.Listing.{trimmed, printed, listed, listing}
-use Rattle.lister.proofs.Newline.{trimmed-append}
+use Rattle.lister.specs.Listing.{printed, listed, listing}
 
 -- room for one more
 pub one-more : (B : List ℕ) (n b : ℕ) → n < length B → (t : List ℕ) → listing (take (n + 1) (set B n b) ++ t) ≡ listing (take n B ++ (b ∷ t))
 one-more B n b h t = ap listing (rw (add-one n, take-suc-set B n b h) (append-snoc (take n B) b t))
 
 -- ---- a letter and more characters than any type has
-
-trimmed-length : (xs : List ℕ) → length xs ≤ suc (length (trimmed xs))
-unfolding trimmed
-trimmed-length [] = omega arith
-trimmed-length (x ∷ []) = omega arith
-trimmed-length (x ∷ y ∷ xs) = omega (arith, trimmed-length (y ∷ xs))
 
 -- the answer by the letter, and by whether a character is wrong
 long-answer : (k : ℕ) (cs : List ℕ) → 463 ≤ length cs → answerOf k cs ≡ refusal (cond (eqb k 0) (cond (notCharacters cs) 4 5) 3)
@@ -40,12 +35,12 @@ long-answer k cs h =
     go true false e f w = rw (e, f)
     go false b e f w = rw (w, e)
 
-judged : (l : ℕ) (xs : List ℕ) → 464 ≤ length xs → listing (l ∷ xs) ≡ printed (typeOf l) (refusal (cond (eqb (typeOf l) 0) (cond (notCharacters (trimmed xs)) 4 5) 3))
+judged : (l : ℕ) (xs : List ℕ) → 464 ≤ length xs → listing (l ∷ xs) ≡ printed (typeOf l) (refusal (cond (eqb (typeOf l) 0) (cond (notCharacters (trimmed 10 xs)) 4 5) 3))
 unfolding listing listed trimmed
 judged l [] h = absurd (omega arith)
-judged l (x ∷ xs) h = ap (printed (typeOf l)) (long-answer (typeOf l) (trimmed (x ∷ xs)) (omega (arith, trimmed-length (x ∷ xs))))
+judged l (x ∷ xs) h = ap (printed (typeOf l)) (long-answer (typeOf l) (trimmed 10 (x ∷ xs)) (omega (arith, trimmed-length 10 (x ∷ xs))))
 
-same : (l : ℕ) (xs ys : List ℕ) → 464 ≤ length xs → 464 ≤ length ys → notCharacters (trimmed xs) ≡ notCharacters (trimmed ys) → listing (l ∷ xs) ≡ listing (l ∷ ys)
+same : (l : ℕ) (xs ys : List ℕ) → 464 ≤ length xs → 464 ≤ length ys → notCharacters (trimmed 10 xs) ≡ notCharacters (trimmed 10 ys) → listing (l ∷ xs) ≡ listing (l ∷ ys)
 same l xs ys h k e = judged l xs h ∙ rw e (sym (judged l ys k))
 
 or-true : (b : Bool) → (b || true) ≡ true
@@ -60,16 +55,16 @@ not-append (x ∷ xs) ys = ap (λ (b : Bool). notCharacter x || b) (not-append x
 -- the last character p, and then b: what is kept is b and whether p counts
 module _ (l x p b : ℕ) (ys t : List ℕ) (n : length ys ≡ 462) where
   abbrev T : List ℕ
-  T = trimmed (b ∷ t)
+  T = trimmed 10 (b ∷ t)
 
-  before : notCharacters (trimmed ((x ∷ ys) ++ (p ∷ b ∷ t))) ≡ (notCharacters (x ∷ ys) || (notCharacter p || notCharacters T))
+  before : notCharacters (trimmed 10 ((x ∷ ys) ++ (p ∷ b ∷ t))) ≡ (notCharacters (x ∷ ys) || (notCharacter p || notCharacters T))
   unfolding trimmed notCharacters
-  before = ap notCharacters (trimmed-append (x ∷ ys) p (b ∷ t)) ∙ not-append (x ∷ ys) (p ∷ T)
+  before = ap notCharacters (trimmed-append 10 (x ∷ ys) p (b ∷ t)) ∙ not-append (x ∷ ys) (p ∷ T)
 
-  after : (c : ℕ) → notCharacters (trimmed ((c ∷ ys) ++ (b ∷ t))) ≡ (notCharacters (c ∷ ys) || notCharacters T)
-  after c = ap notCharacters (trimmed-append (c ∷ ys) b t) ∙ not-append (c ∷ ys) T
+  after : (c : ℕ) → notCharacters (trimmed 10 ((c ∷ ys) ++ (b ∷ t))) ≡ (notCharacters (c ∷ ys) || notCharacters T)
+  after c = ap notCharacters (trimmed-append 10 (c ∷ ys) b t) ∙ not-append (c ∷ ys) T
 
-  kept : (c : ℕ) → notCharacters (trimmed ((c ∷ ys) ++ (b ∷ t))) ≡ notCharacters (trimmed ((x ∷ ys) ++ (p ∷ b ∷ t)))
+  kept : (c : ℕ) → notCharacters (trimmed 10 ((c ∷ ys) ++ (b ∷ t))) ≡ notCharacters (trimmed 10 ((x ∷ ys) ++ (p ∷ b ∷ t)))
       → listing (l ∷ c ∷ (ys ++ (b ∷ [])) ++ t) ≡ listing (l ∷ x ∷ (ys ++ (p ∷ [])) ++ (b ∷ t))
   kept c e =
       ap (λ (r : List ℕ). listing (l ∷ c ∷ r)) (append-snoc ys b t)

@@ -11,10 +11,10 @@ use lib.Seq.{slice, take-add, drop-at, length-take-le}
 use Rattle.io.specs.Counts.{Counts}
 use Rattle.slotter.specs.Bursts.{Told}
 use Rattle.text.specs.declared.Text.{Text}
-use Rattle.text.specs.Text.{textOf, ascii, characterOf}
+use Rattle.text.specs.Text.{textOf, ascii, characterOf, trimmed}
 use Rattle.text.proofs.Decimal.{length-decimal}
 use Rattle.block_text.specs.BlockText.{typeOf, answerOf}
-use Rattle.lister.specs.Listing.{signed, nameOf, refusalLine, burstLines, printed, trimmed, listed, listing}
+use Rattle.lister.specs.Listing.{signed, nameOf, refusalLine, burstLines, printed, listed, listing}
 
 length-signed : (z : ℤ) → length (signed z) ≤ 21
 unfolding signed ascii
@@ -53,7 +53,7 @@ length-printed type told = go (told .number) (told .sums) (told .bits)
 
 pub length-listing : (input : List ℕ) → length (listing input) ≤ 1024
 unfolding listing listed
-length-listing input = go (trimmed input)
+length-listing input = go (trimmed 10 input)
   where
     go : (l : List ℕ) → length (listed l) ≤ 1024
     go [] = length-refusal 3

@@ -7,19 +7,9 @@ use lib.Dec.{eqb}
 use lib.ListN.{getD}
 use lib.Seq.{slice}
 use Rattle.dsp_types.specs.Refusals.{badLength}
-use Rattle.text.specs.Text.{ascii, decimal, characterOf}
+use Rattle.text.specs.Text.{ascii, decimal, characterOf, trimmed}
 use Rattle.slotter.specs.Bursts.{Told}
 use Rattle.block_text.specs.BlockText.{typeOf, answerOf}
-
--- ---- the input
-
--- one closing newline is dropped
-unfoldable pub trimmed : List ℕ → List ℕ
-trimmed [] = []
-trimmed (b ∷ []) = cond (eqb b 10) [] (b ∷ [])
-trimmed (b ∷ c ∷ rest) = b ∷ trimmed (c ∷ rest)
-
--- ---- the output
 
 -- a whole number in decimal
 unfoldable pub signed : ℤ → List ℕ
@@ -57,6 +47,6 @@ unfoldable pub listed : List ℕ → List ℕ
 listed [] = refusalLine badLength
 listed (letter ∷ characters) = printed (typeOf letter) (answerOf (typeOf letter) characters)
 
--- the listing of an input
+-- the listing of an input, of which one closing newline is dropped
 unfoldable pub listing : List ℕ → List ℕ
-listing input = listed (trimmed input)
+listing input = listed (trimmed 10 input)

@@ -2,17 +2,17 @@
 use block_text::answer;
 use block_text::not_character;
 use block_text::type_of;
+use dsp_types::BAD_LENGTH;
 use slotter::Answer;
 use slotter::Burst;
 use text::Text;
 ghost use mathlib.Core.Path.{_≡_};
-ghost use Prim.Native.Nat.{ℕ, _≤_};
+ghost use Prim.Native.Nat.{ℕ};
 ghost use mathlib.Core.List.{List, [], _∷_, _++_};
-ghost use lib.ListN.{length, take};
 ghost use Rattle.io.specs.Counts.{Counts};
 ghost use Rattle.text.specs.Text.{textOf, cut};
 ghost use Rattle.slotter.specs.Bursts.{told};
-ghost use Rattle.lister.specs.Listing.{signed, nameOf, trimmed, refusalLine, burstLines, printed, listing};
+ghost use Rattle.lister.specs.Listing.{signed, nameOf, refusalLine, burstLines, printed, listing};
 ghost use Rattle.lister.specs.Inputs.{inputOf};
 
 // The text with a whole number in decimal behind it.
@@ -78,27 +78,16 @@ fn print(kind: u32, burst: Burst) -> Text
     }
 }
 
-// The length of an input without one closing newline.
-fn trimmed_length(input: &[u8]) -> usize
-    ensures { λ r. ⌜ (r ≤ length (now (input .entry))) × (take r (now (input .entry)) ≡ trimmed (now (input .entry))) ⌝ }
-{
-    let n = input.len();
-    if n == 0 {
-        return 0;
-    }
-    if input[n - 1] == b'\n' { n - 1 } else { n }
-}
-
 // The listing of an input of any length.
 fn listing(input: &[u8]) -> Text
     ensures { λ r. ⌜ Counts (r .len) (r .bytes) × (textOf r ≡ cut (listing (now (input .entry)))) ⌝ }
 {
-    let n = trimmed_length(input);
-    if n == 0 {
-        return refused(3);
+    let line = text::trimmed(input, b'\n');
+    if line.len() == 0 {
+        return refused(BAD_LENGTH);
     }
-    let kind = type_of(input[0]);
-    print(kind, answer(kind, &input[1..n]))
+    let kind = type_of(line[0]);
+    print(kind, answer(kind, &line[1..]))
 }
 
 // What is kept of an input that comes in pieces: bytes with the same listing, whatever follows.

@@ -1,3 +1,4 @@
 pub mod Decimal
 pub mod Cutting
+pub mod Trimming
 mod Pieces
