@@ -6,9 +6,6 @@ use borrow.Author.Needs.{needs}
 use Rattle.block_text.proofs.answer.Statement.{statement}
 use Rattle.block_text.proofs.answer.Tie as tie
 
-refusal-of-requires : tie.Need-refusal-of-requires
-refusal-of-requires c κs = search needs
-
 returns : tie.Need-returns
 unfolding told refusal
 returns c =
@@ -26,4 +23,4 @@ returns-2 c =
     c .burst-of .ensures ∙ accepts (r .before .before .args .kind) (r .refusal-of .result) _ (r .refusal-of .ensures) (c .before .if1 .left)
 
 pub answer-spec : {M : Type 1} → statement M
-answer-spec = tie.close (tie.spec refusal-of-requires returns burst-of-requires returns-2)
+answer-spec = tie.close (tie.spec (λ c κs. search needs) returns burst-of-requires returns-2)

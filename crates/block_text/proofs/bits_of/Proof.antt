@@ -19,21 +19,6 @@ abbrev μ-loop : tie.MeasureT-loop
 loop-holds : tie.Need-loop-holds Inv-loop μ-loop
 loop-holds c = (search needs, search needs, refl)
 
-shared-slice-read-bit-of : tie.Need-shared-slice-read-bit-of Inv-loop μ-loop
-shared-slice-read-bit-of c = search needs
-
-bit-of-requires : tie.Need-bit-of-requires Inv-loop μ-loop
-bit-of-requires c κs = search needs
-
-array-write-bits : tie.Need-array-write-bits Inv-loop μ-loop
-array-write-bits c = search needs
-
-add-i : tie.Need-add-i Inv-loop μ-loop
-add-i c = search needs
-
-loop-less : tie.Need-loop-less Inv-loop μ-loop
-loop-less c = search needs
-
 loop-again : tie.Need-loop-again Inv-loop μ-loop
 loop-again c =
     let l = c .before .before .before .loop in
@@ -51,10 +36,10 @@ bits-of-spec =
     Inv-loop
     μ-loop
     loop-holds
-    shared-slice-read-bit-of
-    bit-of-requires
-    array-write-bits
-    add-i
-    loop-less
+    (λ c. search needs)
+    (λ c κs. search needs)
+    (λ c. search needs)
+    (λ c. search needs)
+    (λ c. search needs)
     loop-again
     returns)

@@ -10,69 +10,6 @@ use Rattle.block_text.proofs.burst_of.Tie as tie
 bits-of-requires : tie.Need-bits-of-requires
 bits-of-requires c κs = omega (arith, c .before .pre, wanted-most (c .before .args .kind))
 
-slice-aggregate-bits : tie.Need-slice-aggregate-bits
-slice-aggregate-bits c = search needs
-
-sub-build-sdb : tie.Need-sub-build-sdb
-sub-build-sdb c = search needs
-
-part-build-sdb-start : tie.Need-part-build-sdb-start
-part-build-sdb-start c = search needs
-
-part-build-sdb-end : tie.Need-part-build-sdb-end
-part-build-sdb-end c = search needs
-
-sub-build-sdb-2 : tie.Need-sub-build-sdb-2
-sub-build-sdb-2 c = search needs
-
-part-build-sdb-start-2 : tie.Need-part-build-sdb-start-2
-part-build-sdb-start-2 c = search needs
-
-part-build-sdb-end-2 : tie.Need-part-build-sdb-end-2
-part-build-sdb-end-2 c = search needs
-
-sub-build-sdb-3 : tie.Need-sub-build-sdb-3
-sub-build-sdb-3 c = search needs
-
-part-build-sdb-start-3 : tie.Need-part-build-sdb-start-3
-part-build-sdb-start-3 c = search needs
-
-part-build-sdb-end-3 : tie.Need-part-build-sdb-end-3
-part-build-sdb-end-3 c = search needs
-
-build-sdb-requires : tie.Need-build-sdb-requires
-build-sdb-requires c κs = search needs
-
-sub-build-ndb : tie.Need-sub-build-ndb
-sub-build-ndb c = search needs
-
-part-build-ndb-start : tie.Need-part-build-ndb-start
-part-build-ndb-start c = search needs
-
-part-build-ndb-end : tie.Need-part-build-ndb-end
-part-build-ndb-end c = search needs
-
-sub-build-ndb-2 : tie.Need-sub-build-ndb-2
-sub-build-ndb-2 c = search needs
-
-part-build-ndb-start-2 : tie.Need-part-build-ndb-start-2
-part-build-ndb-start-2 c = search needs
-
-part-build-ndb-end-2 : tie.Need-part-build-ndb-end-2
-part-build-ndb-end-2 c = search needs
-
-sub-build-ndb-3 : tie.Need-sub-build-ndb-3
-sub-build-ndb-3 c = search needs
-
-part-build-ndb-start-3 : tie.Need-part-build-ndb-start-3
-part-build-ndb-start-3 c = search needs
-
-part-build-ndb-end-3 : tie.Need-part-build-ndb-end-3
-part-build-ndb-end-3 c = search needs
-
-build-ndb-requires : tie.Need-build-ndb-requires
-build-ndb-requires c κs = search needs
-
 returns : tie.Need-returns
 returns c =
     let b = c .before .before .before .before .before .before in
@@ -91,26 +28,26 @@ burst-of-spec =
     tie.close
     (tie.spec
     bits-of-requires
-    slice-aggregate-bits
-    sub-build-sdb
-    part-build-sdb-start
-    part-build-sdb-end
-    sub-build-sdb-2
-    part-build-sdb-start-2
-    part-build-sdb-end-2
-    sub-build-sdb-3
-    part-build-sdb-start-3
-    part-build-sdb-end-3
-    build-sdb-requires
-    sub-build-ndb
-    part-build-ndb-start
-    part-build-ndb-end
-    sub-build-ndb-2
-    part-build-ndb-start-2
-    part-build-ndb-end-2
-    sub-build-ndb-3
-    part-build-ndb-start-3
-    part-build-ndb-end-3
-    build-ndb-requires
+    (λ c. search needs)
+    (λ c. search needs)
+    (λ c. search needs)
+    (λ c. search needs)
+    (λ c. search needs)
+    (λ c. search needs)
+    (λ c. search needs)
+    (λ c. search needs)
+    (λ c. search needs)
+    (λ c. search needs)
+    (λ c κs. search needs)
+    (λ c. search needs)
+    (λ c. search needs)
+    (λ c. search needs)
+    (λ c. search needs)
+    (λ c. search needs)
+    (λ c. search needs)
+    (λ c. search needs)
+    (λ c. search needs)
+    (λ c. search needs)
+    (λ c κs. search needs)
     returns
     returns-2)

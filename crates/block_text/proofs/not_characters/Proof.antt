@@ -18,18 +18,6 @@ abbrev μ-loop : tie.MeasureT-loop
 loop-holds : tie.Need-loop-holds Inv-loop μ-loop
 loop-holds c = (search needs, search needs, refl)
 
-shared-slice-read-not-character : tie.Need-shared-slice-read-not-character Inv-loop μ-loop
-shared-slice-read-not-character c = search needs
-
-not-character-requires : tie.Need-not-character-requires Inv-loop μ-loop
-not-character-requires c κs = search needs
-
-add-i : tie.Need-add-i Inv-loop μ-loop
-add-i c = search needs
-
-loop-less : tie.Need-loop-less Inv-loop μ-loop
-loop-less c = search needs
-
 loop-again : tie.Need-loop-again Inv-loop μ-loop
 loop-again c =
     let l = c .before .before .before .loop in
@@ -46,9 +34,9 @@ not-characters-spec =
     Inv-loop
     μ-loop
     loop-holds
-    shared-slice-read-not-character
-    not-character-requires
-    add-i
-    loop-less
+    (λ c. search needs)
+    (λ c κs. search needs)
+    (λ c. search needs)
+    (λ c. search needs)
     loop-again
     returns)

@@ -6,12 +6,6 @@ use Rattle.block_text.specs.BlockText.{refusalOf}
 use Rattle.block_text.proofs.refusal_of.Statement.{statement}
 use Rattle.block_text.proofs.refusal_of.Tie as tie
 
-wrong-length-requires : tie.Need-wrong-length-requires
-wrong-length-requires c κs = search needs
-
-not-characters-requires : tie.Need-not-characters-requires
-not-characters-requires c κs = search needs
-
 returns : tie.Need-returns
 unfolding refusalOf
 returns c = rw (sym (c .before .before .wrong-length .ensures) ∙ c .if1 .taken)
@@ -37,4 +31,4 @@ returns-4 c =
 pub refusal-of-spec : {M : Type 1} → statement M
 refusal-of-spec =
     tie.close
-    (tie.spec wrong-length-requires not-characters-requires returns returns-2 returns-3 returns-4)
+    (tie.spec (λ c κs. search needs) (λ c κs. search needs) returns returns-2 returns-3 returns-4)

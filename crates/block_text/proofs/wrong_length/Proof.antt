@@ -5,12 +5,9 @@ use Rattle.block_text.specs.BlockText.{wrongCount}
 use Rattle.block_text.proofs.wrong_length.Statement.{statement}
 use Rattle.block_text.proofs.wrong_length.Tie as tie
 
-wanted-length-requires : tie.Need-wanted-length-requires
-wanted-length-requires c κs = search needs
-
 returns : tie.Need-returns
 unfolding wrongCount wrongLength
 returns c = rw (c .wanted-length .ensures)
 
 pub wrong-length-spec : {M : Type 1} → statement M
-wrong-length-spec = tie.close (tie.spec wanted-length-requires returns)
+wrong-length-spec = tie.close (tie.spec (λ c κs. search needs) returns)

@@ -16,81 +16,6 @@ use Rattle.lister.proofs.built.Tie as tie
 long : (c : tie.Start) → length (c .args .t4) ≡ 510
 long c = search needs
 
-slice-aggregate-bits : tie.Need-slice-aggregate-bits
-slice-aggregate-bits c = search needs
-
-sub-adj-first : tie.Need-sub-adj-first
-sub-adj-first c = search needs
-
-part-adj-first-start : tie.Need-part-adj-first-start
-part-adj-first-start c = search needs
-
-part-adj-first-end : tie.Need-part-adj-first-end
-part-adj-first-end c = search needs
-
-sub-adj-last : tie.Need-sub-adj-last
-sub-adj-last c = search needs
-
-part-adj-last-start : tie.Need-part-adj-last-start
-part-adj-last-start c = search needs
-
-part-adj-last-end : tie.Need-part-adj-last-end
-part-adj-last-end c = search needs
-
-new-requires : tie.Need-new-requires
-new-requires c κs = search needs
-
-slice-aggregate-append : tie.Need-slice-aggregate-append
-slice-aggregate-append c = search needs
-
-append-requires : tie.Need-append-requires
-append-requires c κs = search needs
-
-with-name-requires : tie.Need-with-name-requires
-with-name-requires c κs = search needs
-
-slice-aggregate-append-2 : tie.Need-slice-aggregate-append-2
-slice-aggregate-append-2 c = search needs
-
-append-requires-2 : tie.Need-append-requires-2
-append-requires-2 c κs = search needs
-
-with-signed-requires : tie.Need-with-signed-requires
-with-signed-requires c κs = search needs
-
-slice-aggregate-append-3 : tie.Need-slice-aggregate-append-3
-slice-aggregate-append-3 c = search needs
-
-append-requires-3 : tie.Need-append-requires-3
-append-requires-3 c κs = search needs
-
-bits-requires : tie.Need-bits-requires
-bits-requires c κs = search needs
-
-slice-aggregate-append-4 : tie.Need-slice-aggregate-append-4
-slice-aggregate-append-4 c = search needs
-
-append-requires-4 : tie.Need-append-requires-4
-append-requires-4 c κs = search needs
-
-with-signed-requires-2 : tie.Need-with-signed-requires-2
-with-signed-requires-2 c κs = search needs
-
-slice-aggregate-append-5 : tie.Need-slice-aggregate-append-5
-slice-aggregate-append-5 c = search needs
-
-append-requires-5 : tie.Need-append-requires-5
-append-requires-5 c κs = search needs
-
-bits-requires-2 : tie.Need-bits-requires-2
-bits-requires-2 c κs = search needs
-
-slice-aggregate-append-6 : tie.Need-slice-aggregate-append-6
-slice-aggregate-append-6 c = search needs
-
-append-requires-6 : tie.Need-append-requires-6
-append-requires-6 c κs = search needs
-
 returns : tie.Need-returns
 unfolding ascii burstLines
 returns c =
@@ -124,29 +49,29 @@ pub built-spec : {M : Type 1} → statement M
 built-spec =
     tie.close
     (tie.spec
-    slice-aggregate-bits
-    sub-adj-first
-    part-adj-first-start
-    part-adj-first-end
-    sub-adj-last
-    part-adj-last-start
-    part-adj-last-end
-    new-requires
-    slice-aggregate-append
-    append-requires
-    with-name-requires
-    slice-aggregate-append-2
-    append-requires-2
-    with-signed-requires
-    slice-aggregate-append-3
-    append-requires-3
-    bits-requires
-    slice-aggregate-append-4
-    append-requires-4
-    with-signed-requires-2
-    slice-aggregate-append-5
-    append-requires-5
-    bits-requires-2
-    slice-aggregate-append-6
-    append-requires-6
+    (λ c. search needs)
+    (λ c. search needs)
+    (λ c. search needs)
+    (λ c. search needs)
+    (λ c. search needs)
+    (λ c. search needs)
+    (λ c. search needs)
+    (λ c κs. search needs)
+    (λ c. search needs)
+    (λ c κs. search needs)
+    (λ c κs. search needs)
+    (λ c. search needs)
+    (λ c κs. search needs)
+    (λ c κs. search needs)
+    (λ c. search needs)
+    (λ c κs. search needs)
+    (λ c κs. search needs)
+    (λ c. search needs)
+    (λ c κs. search needs)
+    (λ c κs. search needs)
+    (λ c. search needs)
+    (λ c κs. search needs)
+    (λ c κs. search needs)
+    (λ c. search needs)
+    (λ c κs. search needs)
     returns)

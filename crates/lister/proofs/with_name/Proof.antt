@@ -6,24 +6,6 @@ use borrow.Author.Needs.{needs}
 use Rattle.lister.proofs.with_name.Statement.{statement}
 use Rattle.lister.proofs.with_name.Tie as tie
 
-slice-aggregate-append : tie.Need-slice-aggregate-append
-slice-aggregate-append c = search needs
-
-append-requires : tie.Need-append-requires
-append-requires c κs = search needs
-
-slice-aggregate-append-2 : tie.Need-slice-aggregate-append-2
-slice-aggregate-append-2 c = search needs
-
-append-requires-2 : tie.Need-append-requires-2
-append-requires-2 c κs = search needs
-
-slice-aggregate-append-3 : tie.Need-slice-aggregate-append-3
-slice-aggregate-append-3 c = search needs
-
-append-requires-3 : tie.Need-append-requires-3
-append-requires-3 c κs = search needs
-
 returns : tie.Need-returns
 unfolding nameOf ascii
 returns c = rw (eq-eqb (c .before .before .before .args .kind) 4 (c .before .before .if1 .taken)) (c .append .ensures .0)
@@ -44,12 +26,12 @@ pub with-name-spec : {M : Type 1} → statement M
 with-name-spec =
     tie.close
     (tie.spec
-    slice-aggregate-append
-    append-requires
-    slice-aggregate-append-2
-    append-requires-2
-    slice-aggregate-append-3
-    append-requires-3
+    (λ c. search needs)
+    (λ c κs. search needs)
+    (λ c. search needs)
+    (λ c κs. search needs)
+    (λ c. search needs)
+    (λ c κs. search needs)
     returns
     returns-2
     returns-3)

@@ -20,12 +20,6 @@ negative c = rw (toZ-ofZ w32 _ (c .before .fits .n)) at (c .if1 .taken)
 bound : (c : tie.Start) → mag (c .args .n) < 2 ^ 31
 bound c = c .fits .n .sfits
 
-slice-aggregate-append : tie.Need-slice-aggregate-append
-slice-aggregate-append c = search needs
-
-append-requires : tie.Need-append-requires
-append-requires c κs = search needs
-
 sub-decimal : tie.Need-sub-decimal
 sub-decimal c =
     let t = c .before .before in
@@ -46,17 +40,11 @@ add-decimal c =
     rw (toZ-ofZ w32 z (t .before .fits .n), below z (negative t), toZ-pos w32 (mag z) (bound (t .before)))
     (record { fits = omega (arith, bound (t .before)) })
 
-decimal-requires : tie.Need-decimal-requires
-decimal-requires c κs = search needs
-
 cast-decimal-2 : tie.Need-cast-decimal-2
 cast-decimal-2 c =
     let z = c .before .args .n in
     let e = toZ-ofZ w32 z (c .before .fits .n) in
     rw (e, above z (rw e at (c .if1 .left))) (tt, record { fits = omega (arith, bound (c .before)) })
-
-decimal-requires-2 : tie.Need-decimal-requires-2
-decimal-requires-2 c κs = search needs
 
 returns : tie.Need-returns
 unfolding ascii
@@ -77,13 +65,13 @@ pub with-signed-spec : {M : Type 1} → statement M
 with-signed-spec =
     tie.close
     (tie.spec
-    slice-aggregate-append
-    append-requires
+    (λ c. search needs)
+    (λ c κs. search needs)
     sub-decimal
     cast-decimal
     add-decimal
-    decimal-requires
+    (λ c κs. search needs)
     cast-decimal-2
-    decimal-requires-2
+    (λ c κs. search needs)
     returns
     returns-2)

@@ -8,15 +8,6 @@ use borrow.Author.Needs.{needs}
 use Rattle.lister.proofs.Input.listed.Statement.{statement}
 use Rattle.lister.proofs.Input.listed.Tie as tie
 
-slice-aggregate-front : tie.Need-slice-aggregate-front
-slice-aggregate-front c = search needs
-
-front-requires : tie.Need-front-requires
-front-requires c κs = search needs
-
-listing-requires : tie.Need-listing-requires
-listing-requires c κs = search needs
-
 returns : tie.Need-returns
 unfolding inputOf
 returns c =
@@ -25,4 +16,4 @@ returns c =
     (e .0, e .1 ∙ rw (f .front .ensures) (short (listing _) (length-listing _)))
 
 pub listed-spec : {M : Type 1} → statement M
-listed-spec = tie.close (tie.spec slice-aggregate-front front-requires listing-requires returns)
+listed-spec = tie.close (tie.spec (λ c. search needs) (λ c κs. search needs) (λ c κs. search needs) returns)

@@ -12,29 +12,11 @@ use Rattle.lister.proofs.Input.push.Tie as tie
 long : (c : tie.Start) → length (c .args .self .bytes) ≡ 465
 long c = search needs
 
-array-write-bytes : tie.Need-array-write-bytes
-array-write-bytes c = search needs
-
-add-t10 : tie.Need-add-t10
-add-t10 c = search needs
-
 returns : tie.Need-returns
 unfolding inputOf
 returns c =
     let a = c .before .before .args in
     one-more (a .self .bytes) (a .self .len) (a .b) (omega (arith, long (c .before .before)))
-
-array-read-last : tie.Need-array-read-last
-array-read-last c = search needs
-
-not-character-requires : tie.Need-not-character-requires
-not-character-requires c κs = search needs
-
-array-write-bytes-2 : tie.Need-array-write-bytes-2
-array-write-bytes-2 c = search needs
-
-array-write-bytes-3 : tie.Need-array-write-bytes-3
-array-write-bytes-3 c = search needs
 
 returns-2 : tie.Need-returns-2
 unfolding inputOf
@@ -59,11 +41,11 @@ pub push-spec : {M : Type 1} → statement M
 push-spec =
     tie.close
     (tie.spec
-    array-write-bytes
-    add-t10
+    (λ c. search needs)
+    (λ c. search needs)
     returns
-    array-read-last
-    not-character-requires
-    array-write-bytes-2
-    array-write-bytes-3
+    (λ c. search needs)
+    (λ c κs. search needs)
+    (λ c. search needs)
+    (λ c. search needs)
     returns-2)
