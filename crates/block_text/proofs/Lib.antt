@@ -1,3 +1,4 @@
 pub mod Characters
 pub mod Blocks
 mod Judged
+mod Words

@@ -1,8 +1,13 @@
 // Bursts from their blocks' bits written as characters, joined in burst order.
+mod line;
+
 use dsp_types::ACCEPTED;
 use dsp_types::BAD_BIT;
 use dsp_types::BAD_LENGTH;
 use dsp_types::BAD_TRAINING;
+pub use line::Asked;
+pub use line::behind;
+pub use line::read;
 use slotter::Answer;
 use slotter::Burst;
 ghost use mathlib.Core.Path.{_≡_};
