@@ -1,7 +1,7 @@
 -- A listing is short: nothing of it is cut.
 use mathlib.Core.Path.{_≡_}
 use mathlib.Core.Bool.{Bool, true, false, cond}
-use mathlib.Core.List.{List, [], _∷_, _++_, map}
+use mathlib.Core.List.{List, [], _∷_, map}
 use Prim.Native.Nat.{ℕ, suc, _≤_, _+_}
 use native.Mathlib.Omega.{arith}
 use lib.Dec.{eqb}

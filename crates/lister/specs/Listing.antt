@@ -1,5 +1,5 @@
 -- The listing of a burst (01, "Checked figures"): from the bytes of the input to those of the output, for inputs of any length. Definitions only.
-use Prim.Native.Nat.{ℕ, zero, suc}
+use Prim.Native.Nat.{ℕ, suc}
 use mathlib.Core.Bool.{cond}
 use mathlib.Core.List.{List, [], _∷_, _++_, map}
 use lib.IntN.{ℤ, pos, negsuc}
