@@ -1,7 +1,5 @@
-mod Appending
+mod Short
 mod Sign
-mod Characters
-mod Blocks
 mod Judged
 mod Pieces
 mod Example

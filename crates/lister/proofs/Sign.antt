@@ -18,19 +18,15 @@ pub below : (z : ℤ) → ltZ z (pos 0) ≡ true → negsuc 0 -ℤ z ≡ pos (ma
 below (pos n) e = absurd (omega (arith, ltb-true n 0 e))
 below (negsuc n) e = rw (le-ltb (suc n) 1 (omega arith)) (ap pos (omega arith))
 
-pub below-size : (z : ℤ) → ltZ z (pos 0) ≡ true → mag z + 1 ≡ natAbs z
-below-size (pos n) e = absurd (omega (arith, ltb-true n 0 e))
-below-size (negsuc n) e = add-one n
-
 pub above : (z : ℤ) → ltZ z (pos 0) ≡ false → z ≡ pos (mag z)
 above (pos n) e = refl
 above (negsuc n) e = absurd (true-ne e)
 
 -- what is written of it
-pub below-signed : (t : List ℕ) (z : ℤ) → ltZ z (pos 0) ≡ true → t ++ ascii "-" ++ decimal 20 (natAbs z) ≡ t ++ signed z
+pub below-signed : (t : List ℕ) (z : ℤ) → ltZ z (pos 0) ≡ true → t ++ ascii "-" ++ decimal 20 (mag z + 1) ≡ t ++ signed z
 unfolding signed
 below-signed t (pos n) e = absurd (omega (arith, ltb-true n 0 e))
-below-signed t (negsuc n) e = append-assoc t (ascii "-") (decimal 20 (suc n))
+below-signed t (negsuc n) e = rw (add-one n) (append-assoc t (ascii "-") (decimal 20 (suc n)))
 
 pub above-signed : (z : ℤ) → ltZ z (pos 0) ≡ false → decimal 20 (natAbs z) ≡ signed z
 unfolding signed

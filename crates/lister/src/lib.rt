@@ -1,118 +1,74 @@
 // The listing of a burst's adjustment bits: from the bytes of an input to those of the output.
-use dsp_types::ACCEPTED;
-use dsp_types::BAD_BIT;
+use block_text::answer;
+use block_text::not_character;
+use block_text::type_of;
 use dsp_types::BAD_LENGTH;
-use dsp_types::BAD_TRAINING;
 use slotter::Answer;
 use slotter::Burst;
 use text::Text;
 ghost use mathlib.Core.Path.{_≡_};
-ghost use Prim.Native.Nat.{ℕ, _+_, _≤_};
-ghost use mathlib.Core.List.{List, [], _∷_, _++_, map};
-ghost use lib.IntN.{natAbs};
-ghost use lib.ListN.{length, take, drop, replicate};
+ghost use Prim.Native.Nat.{ℕ};
+ghost use mathlib.Core.List.{List, [], _∷_, _++_};
 ghost use Rattle.io.specs.Counts.{Counts};
-ghost use Rattle.text.specs.Text.{textOf, decimal, characterOf};
+ghost use Rattle.text.specs.Text.{textOf, cut};
 ghost use Rattle.slotter.specs.Bursts.{told};
-ghost use Rattle.lister.specs.Listing.{signed, nameOf, bitOf, typeOf, wanted, notCharacters, refusalOf, trimmed, notCharacter, wrongCount, burstOf, answerOf, refusalLine, burstLines, printed, listing};
+ghost use Rattle.lister.specs.Listing.{signed, nameOf, refusalLine, burstLines, printed, listing};
 ghost use Rattle.lister.specs.Inputs.{inputOf};
 
-// The text with the bytes s behind it.
-fn append(t: Text, s: &[u8]) -> Text
-    requires { ⌜ t .len + length (now s) ≤ 128 ⌝ }
-    ensures { λ r. ⌜ (r .len ≡ t .len + length (now (s .entry))) × Counts (r .len) (r .bytes) × (textOf r ≡ textOf t ++ now (s .entry)) ⌝ }
-{
-    t.append(s)
-}
-
-// The text with a number in decimal behind it.
-fn append_decimal(t: Text, n: u64) -> Text
-    requires { ⌜ t .len + 20 ≤ 128 ⌝ }
-    ensures { λ r. ⌜ (r .len ≤ t .len + 20) × (textOf r ≡ textOf t ++ decimal 20 n) ⌝ }
-{
-    t.decimal(n)
-}
-
-// A number without its sign.
-fn size(n: i32) -> u64
-    ensures { λ r. ⌜ r ≡ natAbs n ⌝ }
-{
-    if n < 0 { (-1 - n) as u64 + 1 } else { n as u64 }
-}
-
 // The text with a whole number in decimal behind it.
-fn append_signed(t: Text, n: i32) -> Text
-    requires { ⌜ t .len + 21 ≤ 128 ⌝ }
-    ensures { λ r. ⌜ (r .len ≤ t .len + 21) × (textOf r ≡ textOf t ++ signed n) ⌝ }
+fn with_signed(text: Text, n: i32) -> Text
+    ensures { λ r. ⌜ textOf r ≡ cut (textOf text ++ signed n) ⌝ }
 {
     if n < 0 {
-        append_decimal(append(t, b"-"), size(n))
+        text.append(b"-").decimal((-1 - n) as u64 + 1)
     } else {
-        append_decimal(t, size(n))
+        text.decimal(n as u64)
     }
 }
 
 // The text with a type's name behind it.
-fn append_name(t: Text, kind: u32) -> Text
-    requires { ⌜ t .len + 7 ≤ 128 ⌝ }
-    ensures { λ r. ⌜ (r .len ≤ t .len + 7) × (textOf r ≡ textOf t ++ nameOf kind) ⌝ }
+fn with_name(text: Text, kind: u32) -> Text
+    ensures { λ r. ⌜ textOf r ≡ cut (textOf text ++ nameOf kind) ⌝ }
 {
     if kind == 4 {
-        append(t, b"sync")
+        text.append(b"sync")
     } else if kind == 1 {
-        append(t, b"normal1")
+        text.append(b"normal1")
     } else {
-        append(t, b"normal2")
+        text.append(b"normal2")
     }
-}
-
-// The text with `lead`, a window's sum, `mid` and its adjustment bits behind it.
-fn append_window(t: Text, lead: &[u8], sum: i32, mid: &[u8], first: u8, second: u8) -> Text
-    requires { ⌜ t .len + length (now lead) + length (now mid) + 23 ≤ 128 ⌝ }
-    ensures { λ r. ⌜ (r .len ≤ t .len + length (now (lead .entry)) + length (now (mid .entry)) + 23) × (textOf r ≡ textOf t ++ now (lead .entry) ++ signed sum ++ now (mid .entry) ++ (characterOf first ∷ characterOf second ∷ [])) ⌝ }
-{
-    let with_sum = append_signed(append(t, lead), sum);
-    let bits = [text::character_of(first), text::character_of(second)];
-    append(append(with_sum, mid), &bits)
 }
 
 // What is printed of a refusal.
 fn refused(number: u32) -> Text
-    ensures { λ r. ⌜ Counts (r .len) (r .bytes) × (textOf r ≡ refusalLine number) ⌝ }
+    ensures { λ r. ⌜ Counts (r .len) (r .bytes) × (textOf r ≡ cut (refusalLine number)) ⌝ }
 {
-    append(
-        append_decimal(append(Text::new(), b"refused="), number as u64),
-        b"\n",
-    )
+    Text::new()
+        .append(b"refused=")
+        .decimal(number as u64)
+        .append(b"\n")
 }
 
 // What is printed of a burst.
-fn built(kind: u32, first: i32, last: i32, bits: [u8; 510]) -> Text
-    ensures { λ r. ⌜ Counts (r .len) (r .bytes) × (textOf r ≡ burstLines kind first last bits) ⌝ }
+fn built(kind: u32, first: i32, last: i32, burst: [u8; 510]) -> Text
+    ensures { λ r. ⌜ Counts (r .len) (r .bytes) × (textOf r ≡ cut (burstLines kind first last burst)) ⌝ }
 {
-    let named = append_name(append(Text::new(), b"kind="), kind);
-    let one = append_window(
-        named,
-        b"\nsum_first=",
-        first,
-        b"\nadj_first=",
-        bits[12],
-        bits[13],
-    );
-    let both = append_window(
-        one,
-        b"\nsum_last=",
-        last,
-        b"\nadj_last=",
-        bits[498],
-        bits[499],
-    );
-    append(both, b"\n")
+    let bits: &[u8] = &burst;
+    let adj_first = &bits[12..14];
+    let adj_last = &bits[498..500];
+    let named = with_name(Text::new().append(b"kind="), kind);
+    let one = with_signed(named.append(b"\nsum_first="), first)
+        .append(b"\nadj_first=")
+        .bits(adj_first);
+    with_signed(one.append(b"\nsum_last="), last)
+        .append(b"\nadj_last=")
+        .bits(adj_last)
+        .append(b"\n")
 }
 
 // What is printed of an answer to a letter of that type.
 fn print(kind: u32, burst: Burst) -> Text
-    ensures { λ r. ⌜ Counts (r .len) (r .bytes) × (textOf r ≡ printed kind (told burst)) ⌝ }
+    ensures { λ r. ⌜ Counts (r .len) (r .bytes) × (textOf r ≡ cut (printed kind (told burst))) ⌝ }
 {
     let answer = burst.answer;
     let bits = burst.bits;
@@ -122,137 +78,16 @@ fn print(kind: u32, burst: Burst) -> Text
     }
 }
 
-// The burst type that a letter asks for: S 4, N 1, P 2, another letter 0.
-fn type_of(letter: u8) -> u32
-    ensures { λ r. ⌜ r ≡ typeOf letter ⌝ }
-{
-    if letter == b'S' {
-        4
-    } else if letter == b'N' {
-        1
-    } else if letter == b'P' {
-        2
-    } else {
-        0
-    }
-}
-
-// How many characters the blocks of a type have.
-fn wanted_length(kind: u32) -> usize
-    ensures { λ r. ⌜ r ≡ wanted kind ⌝ }
-{
-    if kind == 4 { 366 } else { 462 }
-}
-
-// Whether some character is other than 0 and 1.
-fn not_characters(characters: &[u8]) -> bool
-    ensures { λ r. ⌜ r ≡ notCharacters (now (characters .entry)) ⌝ }
-{
-    let mut found = false;
-    for i in 0..characters.len() {
-        found = found | not_character(characters[i]);
-    }
-    found
-}
-
-// Whether a character is other than 0 and 1.
-fn not_character(c: u8) -> bool
-    ensures { λ r. ⌜ r ≡ notCharacter c ⌝ }
-{
-    !((c == b'0') | (c == b'1'))
-}
-
-// Whether the characters behind a letter of that type are too few or too many. For another letter no length is judged.
-fn wrong_length(kind: u32, characters: &[u8]) -> bool
-    ensures { λ r. ⌜ r ≡ wrongCount kind (now (characters .entry)) ⌝ }
-{
-    (kind != 0) & (characters.len() != wanted_length(kind))
-}
-
-// The refusal of the characters behind a letter of that type: 3, 4, 5 for another letter, else 0.
-fn refusal_of(kind: u32, characters: &[u8]) -> u32
-    ensures { λ r. ⌜ r ≡ refusalOf kind (now (characters .entry)) ⌝ }
-{
-    let wrong = wrong_length(kind, characters);
-    let bad = not_characters(characters);
-    if wrong {
-        return BAD_LENGTH;
-    }
-    if bad {
-        return BAD_BIT;
-    }
-    if kind == 0 { BAD_TRAINING } else { ACCEPTED }
-}
-
-// The bit that a character stands for.
-fn bit_of(c: u8) -> u8
-    ensures { λ r. ⌜ r ≡ bitOf c ⌝ }
-{
-    if c == b'1' { 1 } else { 0 }
-}
-
-// The bits that at most 462 characters stand for, and zeros behind them.
-fn bits_of(characters: &[u8]) -> [u8; 462]
-    requires { ⌜ length (now characters) ≤ 462 ⌝ }
-    ensures { λ r. ⌜ r ≡ map bitOf (now (characters .entry)) ++ drop (length (now (characters .entry))) (replicate 462 0) ⌝ }
-{
-    let mut bits = [0; 462];
-    for i in 0..characters.len() {
-        bits[i] = bit_of(characters[i]);
-    }
-    bits
-}
-
-// The burst of a type, from the characters of its blocks.
-fn burst_of(kind: u32, characters: &[u8]) -> Burst
-    requires { ⌜ length (now characters) ≡ wanted kind ⌝ }
-    ensures { λ r. ⌜ told r ≡ burstOf kind (map bitOf (now (characters .entry))) ⌝ }
-{
-    let all = bits_of(characters);
-    let bits: &[u8] = &all;
-    if kind == 4 {
-        slotter::build_sdb(&bits[0..120], &bits[120..150], &bits[150..366])
-    } else {
-        slotter::build_ndb(kind, &bits[0..216], &bits[216..246], &bits[246..462])
-    }
-}
-
-// The burst of a type, 4 sync, 1 or 2 normal, from its blocks' bits in burst order as characters 0 and 1, or their
-// refusal: 3, 4, 5 for another type, whose length is not judged.
-pub fn answer(kind: u32, characters: &[u8]) -> Burst
-    ensures { λ r. ⌜ told r ≡ answerOf kind (now (characters .entry)) ⌝ }
-{
-    let number = refusal_of(kind, characters);
-    if number != 0 {
-        return Burst {
-            answer: Answer::Refused(number),
-            bits: [0; 510],
-        };
-    }
-    burst_of(kind, characters)
-}
-
-// The length of an input without one closing newline.
-fn trimmed_length(input: &[u8]) -> usize
-    ensures { λ r. ⌜ (r ≤ length (now (input .entry))) × (take r (now (input .entry)) ≡ trimmed (now (input .entry))) ⌝ }
-{
-    let n = input.len();
-    if n == 0 {
-        return 0;
-    }
-    if input[n - 1] == b'\n' { n - 1 } else { n }
-}
-
 // The listing of an input of any length.
-pub fn listing(input: &[u8]) -> Text
-    ensures { λ r. ⌜ Counts (r .len) (r .bytes) × (textOf r ≡ listing (now (input .entry))) ⌝ }
+fn listing(input: &[u8]) -> Text
+    ensures { λ r. ⌜ Counts (r .len) (r .bytes) × (textOf r ≡ cut (listing (now (input .entry)))) ⌝ }
 {
-    let n = trimmed_length(input);
-    if n == 0 {
-        return refused(3);
+    let line = text::trimmed(input, b'\n');
+    if line.len() == 0 {
+        return refused(BAD_LENGTH);
     }
-    let kind = type_of(input[0]);
-    print(kind, answer(kind, &input[1..n]))
+    let kind = type_of(line[0]);
+    print(kind, answer(kind, &line[1..]))
 }
 
 // What is kept of an input that comes in pieces: bytes with the same listing, whatever follows.
@@ -271,8 +106,8 @@ impl Input {
         }
     }
 
-    // One byte more. 465 bytes are too many for each of the three letters, so nothing behind them counts. Behind
-    // another letter what counts is the last byte and whether one before it was other than 0 and 1.
+    // One byte more. 465 bytes are too many for each of the three letters. Behind another letter what counts is the
+    // last byte and whether one before it was other than 0 and 1.
     fn push(self, b: u8) -> Input
         ensures { λ r. ⌜ ((t : List ℕ) → listing (inputOf r ++ t) ≡ listing (inputOf self ++ (b ∷ t))) ⌝ }
     {
@@ -281,21 +116,16 @@ impl Input {
         if len < 465 {
             bytes[len] = b;
             return Input {
-                bytes: bytes,
+                bytes,
                 len: len + 1,
             };
         }
-        if type_of(bytes[0]) == 0 {
-            let last = bytes[464];
-            if not_character(last) {
-                bytes[1] = last;
-            }
-            bytes[464] = b;
+        let last = bytes[464];
+        if not_character(last) {
+            bytes[1] = last;
         }
-        Input {
-            bytes: bytes,
-            len: len,
-        }
+        bytes[464] = b;
+        Input { bytes, len }
     }
 
     // A piece more.
@@ -314,11 +144,6 @@ impl Input {
         ensures { λ r. ⌜ Counts (r .len) (r .bytes) × (textOf r ≡ listing (inputOf self)) ⌝ }
     {
         let bytes = self.bytes;
-        let len = self.len;
-        if len < 465 {
-            listing(&bytes[0..len])
-        } else {
-            listing(&bytes[0..465])
-        }
+        listing(text::front(&bytes, self.len))
     }
 }

@@ -1,49 +1,8 @@
 // The calls on bits: the burst builders and the logger's judging call.
-use crate::field::part;
 use crate::input::Block;
 use crate::output::Output;
-use dsp_types::not_bits;
 use slotter::Answer;
 use slotter::Burst;
-use slotter::build_ndb;
-use slotter::build_sdb;
-
-// The burst of a letter that names none: no length is judged.
-fn no_burst(bits: &[u8]) -> Burst {
-    let number = if not_bits(bits) { 4 } else { 5 };
-    Burst {
-        answer: Answer::Refused(number),
-        bits: [0; 510],
-    }
-}
-
-// A normal burst from its blocks, joined. Where their length is wrong, so is that of a part.
-fn build_normal(train: u32, bits: &[u8]) -> Burst {
-    build_ndb(
-        train,
-        part(bits, 0, 216),
-        part(bits, 216, 246),
-        part(bits, 246, bits.len()),
-    )
-}
-
-fn build_sync(bits: &[u8]) -> Burst {
-    build_sdb(
-        part(bits, 0, 120),
-        part(bits, 120, 150),
-        part(bits, 150, bits.len()),
-    )
-}
-
-// The burst of a letter from its blocks, joined.
-pub fn build_joined(letter: u8, bits: &[u8]) -> Burst {
-    match letter {
-        b'S' => build_sync(bits),
-        b'N' => build_normal(1, bits),
-        b'P' => build_normal(2, bits),
-        _ => no_burst(bits),
-    }
-}
 
 pub fn built(out: Output, block: &mut Block, burst: Burst) -> Output {
     let answer = burst.answer;

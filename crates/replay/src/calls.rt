@@ -10,6 +10,7 @@ use crate::field::letter;
 use crate::field::narrow;
 use crate::field::read_bits;
 use crate::field::read_counter;
+use crate::field::read_digits;
 use crate::field::read_number;
 use crate::field::read_sample;
 use crate::field::split;
@@ -38,7 +39,7 @@ pub enum Call {
     Send(SampleCount, TdmaTime, bool, Span),
     // Kind, length of the answer bytes, bits.
     Judge(u32, usize, Span),
-    // The burst's letter and its blocks, joined.
+    // The burst's letter and its blocks' characters, joined.
     BuildJoined(u8, Span),
     BuildSync(Span, Span, Span),
     // The training sequence's number and the blocks.
@@ -86,7 +87,7 @@ fn build_joined(line: &mut [u8], fields: Fields) -> Call {
     if !is_letter(kind) {
         return Call::Error;
     }
-    match read_bits(line, fields, 2) {
+    match read_digits(&*line, fields, 2) {
         Bits::At(blocks) => Call::BuildJoined(kind, blocks),
         Bits::Bad => Call::Error,
     }

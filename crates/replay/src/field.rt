@@ -210,19 +210,17 @@ pub fn read_sample(line: &[u8], fields: Fields, k: usize) -> Sample {
     })
 }
 
-// Turns decimal digits into their values, and answers whether there was nothing else.
-fn decode(digits: &mut [u8]) -> bool {
+// Whether there are decimal digits alone.
+fn are_digits(text: &[u8]) -> bool {
     let mut is_good = true;
-    for i in 0..digits.len() {
-        let value = std::num::wrapping_sub_u8(digits[i], b'0');
-        digits[i] = value;
-        is_good = is_good & (value < 10);
+    for i in 0..text.len() {
+        is_good = is_good & (std::num::wrapping_sub_u8(text[i], b'0') < 10);
     }
     is_good
 }
 
-// The bits in field k, `=` and a digit each. The line has their values afterwards.
-pub fn read_bits(line: &mut [u8], fields: Fields, k: usize) -> Bits {
+// The digits in field k, behind its `=`.
+pub fn read_digits(line: &[u8], fields: Fields, k: usize) -> Bits {
     let field = span_of(fields, k);
     let from = field.from;
     let to = field.to;
@@ -235,8 +233,26 @@ pub fn read_bits(line: &mut [u8], fields: Fields, k: usize) -> Bits {
     if line[from] != b'=' {
         return Bits::Bad;
     }
-    if !decode(&mut line[from + 1..to]) {
+    if !are_digits(&line[from + 1..to]) {
         return Bits::Bad;
     }
     Bits::At(Span { from: from + 1, to })
+}
+
+// Turns the digits of a part of the line into their values.
+fn decode(line: &mut [u8], at: Span) {
+    for i in at.from..at.to {
+        if i < line.len() {
+            line[i] = std::num::wrapping_sub_u8(line[i], b'0');
+        }
+    }
+}
+
+// The bits in field k, `=` and a digit each. The line has their values afterwards.
+pub fn read_bits(line: &mut [u8], fields: Fields, k: usize) -> Bits {
+    let Bits::At(at) = read_digits(&*line, fields, k) else {
+        return Bits::Bad;
+    };
+    decode(line, at);
+    Bits::At(at)
 }

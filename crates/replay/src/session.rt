@@ -1,5 +1,4 @@
 // What a list of calls works on, and the answer to each call.
-use crate::bursts::build_joined;
 use crate::bursts::built;
 use crate::bursts::judge;
 use crate::calls::Call;
@@ -41,8 +40,9 @@ fn slice(line: &Block, at: Span) -> &[u8] {
 fn answer(out: Output, block: &mut Block, line: &Block, call: Call) -> Output {
     match call {
         Call::Judge(kind, len, bits) => judge(out, block, kind, len, slice(line, bits)),
-        Call::BuildJoined(letter, bits) => {
-            built(out, block, build_joined(letter, slice(line, bits)))
+        Call::BuildJoined(letter, characters) => {
+            let burst = block_text::answer(block_text::type_of(letter), slice(line, characters));
+            built(out, block, burst)
         }
         Call::BuildSync(blk1, bbk, blk2) => {
             let burst = build_sdb(slice(line, blk1), slice(line, bbk), slice(line, blk2));

@@ -1,14 +1,15 @@
 // Sends bursts: a line of standard input for each slot, raw samples (`.cf32`) to standard output.
-mod line;
 mod sender;
 
 use libc::STDERR_FILENO;
 use libc::STDIN_FILENO;
 use libc::STDOUT_FILENO;
-use line::Line;
 use sender::Sender;
 
 type Block = [u8; 65536];
+
+// What is kept of a line. A burst's line is shorter, so a longer one is refused for its length all the same.
+type Line = [u8; 512];
 
 // The sender, and the length of the line that is not yet whole.
 struct Lines {
@@ -50,9 +51,19 @@ fn explain() {
     }
 }
 
+// Adds a byte to a line of that length, and gives the length after it.
+fn push(line: &mut Line, len: usize, byte: u8) -> usize {
+    if len < 512 {
+        line[len] = byte;
+        len + 1
+    } else {
+        len
+    }
+}
+
 // Sends the slot of a line of that length.
 fn send_line(sender: Sender, line: &Line, len: usize) -> Sender {
-    sender.line(line::trimmed(text::front(line, len)))
+    sender.line(text::trimmed(text::front(line, len), b'\r'))
 }
 
 // Sends the slots of the lines that end in these bytes.
@@ -65,7 +76,7 @@ fn send_lines(lines: Lines, line: &mut Line, bytes: &[u8]) -> Lines {
             sender = send_line(sender, &*line, len);
             len = 0;
         } else {
-            len = line::push(line, len, byte);
+            len = push(line, len, byte);
         }
     }
     Lines { sender, len }

@@ -1,6 +1,5 @@
 // The slots, sent one behind the other.
-use crate::line;
-use crate::line::Asked;
+use block_text::Asked;
 use dsp_types::COUNTERS;
 use dsp_types::LAST_SLOT;
 use dsp_types::SampleCount;
@@ -122,7 +121,7 @@ impl Sender {
     }
 
     fn burst(self, kind: u32, characters: &[u8]) -> Sender {
-        let burst = lister::answer(kind, characters);
+        let burst = block_text::answer(kind, characters);
         let answer = burst.answer;
         let bits = burst.bits;
         match answer {
@@ -135,11 +134,11 @@ impl Sender {
     pub fn line(self, line: &[u8]) -> Sender {
         let mut next = self;
         next.lines = std::num::wrapping_add_u64(self.lines, 1);
-        let asked = line::read(line);
+        let asked = block_text::read(line);
         match asked {
             Asked::Nothing => next,
             Asked::Empty => next.silence(),
-            Asked::Burst(kind, at) => next.burst(kind, line::behind(line, at)),
+            Asked::Burst(kind, at) => next.burst(kind, block_text::behind(line, at)),
             Asked::Unknown => next.complain(b"not sync, normal1 or normal2 with bits, nor empty"),
         }
     }

@@ -1,2 +1,4 @@
 pub mod Decimal
-pub mod Pieces
+pub mod Cutting
+pub mod Trimming
+mod Pieces

@@ -5,11 +5,10 @@ use mathlib.Core.List.{List, [], _∷_, _++_, map}
 use Prim.Native.Nat.{ℕ, _+_, _-_, _≤_, _<_, min}
 use native.Mathlib.Omega.{arith}
 use native.Mathlib.Numerals.{add-one}
-use lib.ListN.{getD, length, set, take, length-take, length-map, List·getD-map}
+use lib.ListN.{getD, length, set, take, length-map, List·getD-map}
 use lib.Seq.{paste, take-paste, take-all, take-suc, take-suc-set, take-take, take-append-le, take-append-add, length-take-le}
 use Rattle.dsp_types.proofs.RingLaws.{le-or-lt}
-use Rattle.text.specs.declared.Text.{Text}
-use Rattle.text.specs.Text.{textOf, cut, characterOf}
+use Rattle.text.specs.Text.{cut, characterOf}
 
 -- no more than a list has
 take-least : {A : Type 0} (l : List A) (n : ℕ) → take (min (length l) n) l ≡ take n l
@@ -33,15 +32,6 @@ module _ (bytes s : List ℕ) (n len count : ℕ) (h : length bytes ≡ 1024) (l
       ap (take (len + count)) e
       ∙ take-paste bytes len s count (omega arith) (omega arith)
       ∙ rw (← held, c, take-least s (1024 - len)) (sym (ap (λ (x : ℕ). take x (take len bytes ++ s)) m ∙ take-append-add (take len bytes) s (1024 - len)))
-
--- a text that is not cut
-pub whole : (s : List ℕ) → length s ≤ 1024 → cut s ≡ s
-unfolding cut
-whole s h = take-all 1024 s h
-
-pub held-whole : (t : Text) → length (t .bytes) ≡ 1024 → textOf t ≡ cut (textOf t)
-unfolding textOf
-held-whole t h = sym (whole (textOf t) (omega (arith, length-take (t .len) (t .bytes))))
 
 pub counted : (w : List ℕ) (n : ℕ) → length w ≡ 1024 → n ≤ 1024 → n ≡ length (take n w)
 counted w n h l = sym (length-take-le n w (omega arith))
@@ -68,17 +58,3 @@ unfolding characterOf
 character-turn bits w i x h k e inv =
     rw (add-one i, take-suc-set w i x k, take-suc (map characterOf bits) i 48 (omega (arith, length-map bits characterOf)), inv, e)
     (ap (λ (c : ℕ). take i (map characterOf bits) ++ (c ∷ [])) (sym (List·getD-map characterOf bits i 0)))
-
--- ---- pieces, one behind the other
-
-cut-cut : (xs ys : List ℕ) → cut (cut xs ++ ys) ≡ cut (xs ++ ys)
-unfolding cut
-cut-cut xs ys =
-    ⊎-elim
-    (λ (h : length xs ≤ 1024). rw (take-all 1024 xs h))
-    (λ (h : 1024 < length xs).
-    take-append-le 1024 (take 1024 xs) ys (omega (arith, length-take-le 1024 xs (omega arith))) ∙ take-take 1024 1024 xs (omega arith) ∙ sym (take-append-le 1024 xs ys (omega arith)))
-    (le-or-lt (length xs) 1024)
-
-pub then : {t u : List ℕ} (xs ys : List ℕ) → t ≡ cut xs → u ≡ cut (t ++ ys) → u ≡ cut (xs ++ ys)
-then xs ys e f = f ∙ rw e (cut-cut xs ys)

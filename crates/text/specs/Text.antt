@@ -33,3 +33,9 @@ textOf t = take (t .len) (t .bytes)
 -- what a text holds of bytes
 unfoldable pub cut : List ℕ → List ℕ
 cut bytes = take 1024 bytes
+
+-- bytes without one closing byte c
+unfoldable pub trimmed : ℕ → List ℕ → List ℕ
+trimmed c [] = []
+trimmed c (b ∷ []) = cond (eqb b c) [] (b ∷ [])
+trimmed c (b ∷ d ∷ rest) = b ∷ trimmed c (d ∷ rest)

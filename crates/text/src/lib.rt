@@ -4,7 +4,7 @@ ghost use mathlib.Core.Path.{_≡_};
 ghost use mathlib.Core.List.{[], _++_, map};
 ghost use Prim.Native.Nat.{_≤_};
 ghost use lib.ListN.{length, take};
-ghost use Rattle.text.specs.Text.{textOf, cut, decimal, characterOf};
+ghost use Rattle.text.specs.Text.{textOf, cut, decimal, characterOf, trimmed};
 
 // The first len of the bytes; a larger len counts as 1,024.
 pub struct Text {
@@ -18,6 +18,21 @@ pub fn front(bytes: &[u8], len: usize) -> &[u8]
 {
     if len < bytes.len() {
         &bytes[..len]
+    } else {
+        bytes
+    }
+}
+
+// The bytes without one closing byte c.
+pub fn trimmed(bytes: &[u8], c: u8) -> &[u8]
+    ensures { λ r. ⌜ now r ≡ trimmed c (now (bytes .entry)) ⌝ }
+{
+    let n = bytes.len();
+    if n == 0 {
+        return bytes;
+    }
+    if bytes[n - 1] == c {
+        &bytes[..n - 1]
     } else {
         bytes
     }

@@ -1,110 +1,77 @@
--- `lister::built` meets its contract: it appends the parts in order.
-use mathlib.Core.Path.{_≡_, _∙_}
+-- `lister::built` meets its contract: a piece behind the other.
+use mathlib.Core.Path.{_≡_}
+use mathlib.Core.List.{map}
 use native.Mathlib.Omega.{arith}
-use lib.ListN.{length}
-use borrow.Author.Needs.{needs}
+use lib.ListN.{length, take, drop}
 use mir.Syntax.{w32}
 use mir.ValLaws.{toZ-ofZ}
-use Rattle.text.specs.Text.{ascii}
-use Rattle.lister.specs.Listing.{burstLines}
-use Rattle.lister.proofs.Appending.{two}
+use Rattle.text.specs.Text.{textOf, cut, ascii, characterOf}
+use Rattle.text.proofs.Cutting.{then}
+use Rattle.lister.specs.Listing.{signed, nameOf, burstLines}
+use Rattle.lister.proofs.Short.{counts, part}
+use borrow.Author.Needs.{needs}
 use Rattle.lister.proofs.built.Statement.{statement}
 use Rattle.lister.proofs.built.Tie as tie
 
 long : (c : tie.Start) → length (c .args .t4) ≡ 510
 long c = search needs
 
-new-requires : tie.Need-new-requires
-new-requires c κs = search needs
-
-slice-aggregate-append : tie.Need-slice-aggregate-append
-slice-aggregate-append c = search needs
-
-append-requires : tie.Need-append-requires
-append-requires c κs = search needs
-
-append-name-requires : tie.Need-append-name-requires
-append-name-requires c κs = search needs
-
-slice-aggregate-append-window : tie.Need-slice-aggregate-append-window
-slice-aggregate-append-window c = search needs
-
-slice-aggregate-append-window-2 : tie.Need-slice-aggregate-append-window-2
-slice-aggregate-append-window-2 c = search needs
-
-array-read-append-window : tie.Need-array-read-append-window
-array-read-append-window c = search needs
-
-array-read-append-window-2 : tie.Need-array-read-append-window-2
-array-read-append-window-2 c = search needs
-
-append-window-requires : tie.Need-append-window-requires
-append-window-requires c κs = search needs
-
-slice-aggregate-append-window-3 : tie.Need-slice-aggregate-append-window-3
-slice-aggregate-append-window-3 c = search needs
-
-slice-aggregate-append-window-4 : tie.Need-slice-aggregate-append-window-4
-slice-aggregate-append-window-4 c = search needs
-
-array-read-append-window-3 : tie.Need-array-read-append-window-3
-array-read-append-window-3 c = search needs
-
-array-read-append-window-4 : tie.Need-array-read-append-window-4
-array-read-append-window-4 c = search needs
-
-append-window-requires-2 : tie.Need-append-window-requires-2
-append-window-requires-2 c κs = search needs
-
-slice-aggregate-append-2 : tie.Need-slice-aggregate-append-2
-slice-aggregate-append-2 c = search needs
-
-append-requires-2 : tie.Need-append-requires-2
-append-requires-2 c κs = search needs
-
 returns : tie.Need-returns
 unfolding ascii burstLines
 returns c =
-    let w₂ = c .before .before in
-    let w₁ = w₂ .before .before .before in
-    let n = w₁ .before .before .before in
-    let a = n .before in
-    let e = a .before .before in
-    let c₀ = e .before in
-    let m = long c₀ in (
-      c .append2 .ensures .1,
-      c .append2 .ensures .2
-          ∙ rw (
-            w₂ .append-window2 .ensures .1,
-            w₁ .append-window .ensures .1,
-            n .append-name .ensures .1,
-            a .append .ensures .2,
-            e .new .ensures .0,
-            toZ-ofZ w32 (c₀ .args .first) (c₀ .fits .first),
-            toZ-ofZ w32 (c₀ .args .last) (c₀ .fits .last),
-            two 12 (c₀ .args .t4) (omega arith),
-            two 498 (c₀ .args .t4) (omega arith),
-          ),
-    )
+    let bits₂ = c .before .before in
+    let adj₂ = bits₂ .before in
+    let sum₂ = adj₂ .before .before in
+    let lead₂ = sum₂ .before in
+    let bits₁ = lead₂ .before .before in
+    let adj₁ = bits₁ .before in
+    let sum₁ = adj₁ .before .before in
+    let lead₁ = sum₁ .before in
+    let named = lead₁ .before .before in
+    let kind = named .before in
+    let new = kind .before .before in
+    let a = new .before .before .before .before in
+    let B = a .args .t4 in
+    let h = long a in
+    let t₁ : textOf (kind .append .result) ≡ cut (ascii "kind=") = rw (new .new .ensures .0) at (kind .append .ensures .0) in
+    let t₂ = then _ (nameOf (a .args .kind)) t₁ (named .with-name .ensures) in
+    let t₃ = then _ (ascii "\nsum_first=") t₂ (lead₁ .append2 .ensures .0) in
+    let t₄ = then _ (signed (a .args .first)) t₃ (rw (toZ-ofZ w32 (a .args .first) (a .fits .first)) at (sum₁ .with-signed .ensures)) in
+    let t₅ = then _ (ascii "\nadj_first=") t₄ (adj₁ .append3 .ensures .0) in
+    let t₆ = then _ (map characterOf (take 2 (drop 12 B))) t₅ (bits₁ .bits .ensures .0) in
+    let t₇ = then _ (ascii "\nsum_last=") t₆ (lead₂ .append4 .ensures .0) in
+    let t₈ = then _ (signed (a .args .last)) t₇ (rw (toZ-ofZ w32 (a .args .last) (a .fits .last)) at (sum₂ .with-signed2 .ensures)) in
+    let t₉ = then _ (ascii "\nadj_last=") t₈ (adj₂ .append5 .ensures .0) in
+    let t₁₀ = then _ (map characterOf (take 2 (drop 498 B))) t₉ (bits₂ .bits2 .ensures .0) in
+    (counts (c .append6 .result) (c .append6 .ensures .1 .1), rw (part 12 2 B (omega (arith, h)), part 498 2 B (omega (arith, h))) (then _ (ascii "\n") t₁₀ (c .append6 .ensures .0)))
 
 pub built-spec : {M : Type 1} → statement M
 built-spec =
     tie.close
     (tie.spec
-    new-requires
-    slice-aggregate-append
-    append-requires
-    append-name-requires
-    slice-aggregate-append-window
-    slice-aggregate-append-window-2
-    array-read-append-window
-    array-read-append-window-2
-    append-window-requires
-    slice-aggregate-append-window-3
-    slice-aggregate-append-window-4
-    array-read-append-window-3
-    array-read-append-window-4
-    append-window-requires-2
-    slice-aggregate-append-2
-    append-requires-2
+    (λ c. search needs)
+    (λ c. search needs)
+    (λ c. search needs)
+    (λ c. search needs)
+    (λ c. search needs)
+    (λ c. search needs)
+    (λ c. search needs)
+    (λ c κs. search needs)
+    (λ c. search needs)
+    (λ c κs. search needs)
+    (λ c κs. search needs)
+    (λ c. search needs)
+    (λ c κs. search needs)
+    (λ c κs. search needs)
+    (λ c. search needs)
+    (λ c κs. search needs)
+    (λ c κs. search needs)
+    (λ c. search needs)
+    (λ c κs. search needs)
+    (λ c κs. search needs)
+    (λ c. search needs)
+    (λ c κs. search needs)
+    (λ c κs. search needs)
+    (λ c. search needs)
+    (λ c κs. search needs)
     returns)

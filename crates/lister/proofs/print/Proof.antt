@@ -8,18 +8,6 @@ use Rattle.lister.specs.Listing.{printed}
 use Rattle.lister.proofs.print.Statement.{statement}
 use Rattle.lister.proofs.print.Tie as tie
 
-enum-known-answer : tie.Need-enum-known-answer
-enum-known-answer c = search needs
-
-built-requires : tie.Need-built-requires
-built-requires c κs = search needs
-
-enum-known-answer-2 : tie.Need-enum-known-answer-2
-enum-known-answer-2 c = search needs
-
-refused-requires : tie.Need-refused-requires
-refused-requires c κs = search needs
-
 returns : tie.Need-returns
 unfolding told printed
 returns c =
@@ -34,9 +22,9 @@ pub print-spec : {M : Type 1} → statement M
 print-spec =
     tie.close
     (tie.spec
-    enum-known-answer
-    built-requires
-    enum-known-answer-2
-    refused-requires
+    (λ c. search needs)
+    (λ c κs. search needs)
+    (λ c. search needs)
+    (λ c κs. search needs)
     returns
     returns-2)

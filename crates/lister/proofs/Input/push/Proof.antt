@@ -1,22 +1,16 @@
--- `lister::Input::push` meets its contract: there is room, or the characters are too many, or a letter is another and its last character is kept.
+-- `lister::Input::push` meets its contract: there is room, or the characters are too many and what counts of the last one is kept.
 use mathlib.Core.Path.{_≡_, sym, _∙_}
 use mathlib.Core.Logic.{⊎-elim}
 use native.Mathlib.Omega.{arith}
 use lib.ListN.{length, getD, set, length-set}
 use borrow.Author.Needs.{needs}
 use Rattle.lister.specs.Inputs.{inputOf}
-use Rattle.lister.proofs.Pieces.{one-more, full, last-fine, last-wrong, whole}
+use Rattle.lister.proofs.Pieces.{one-more, last-fine, last-wrong, whole}
 use Rattle.lister.proofs.Input.push.Statement.{statement}
 use Rattle.lister.proofs.Input.push.Tie as tie
 
 long : (c : tie.Start) → length (c .args .self .bytes) ≡ 465
 long c = search needs
-
-array-write-bytes : tie.Need-array-write-bytes
-array-write-bytes c = search needs
-
-add-t10 : tie.Need-add-t10
-add-t10 c = search needs
 
 returns : tie.Need-returns
 unfolding inputOf
@@ -24,67 +18,34 @@ returns c =
     let a = c .before .before .args in
     one-more (a .self .bytes) (a .self .len) (a .b) (omega (arith, long (c .before .before)))
 
-array-read-type-of : tie.Need-array-read-type-of
-array-read-type-of c = search needs
-
-type-of-requires : tie.Need-type-of-requires
-type-of-requires c κs = search needs
-
-array-read-last : tie.Need-array-read-last
-array-read-last c = search needs
-
-not-character-requires : tie.Need-not-character-requires
-not-character-requires c κs = search needs
-
-array-write-bytes-2 : tie.Need-array-write-bytes-2
-array-write-bytes-2 c = search needs
-
-array-write-bytes-3 : tie.Need-array-write-bytes-3
-array-write-bytes-3 c = search needs
-
 returns-2 : tie.Need-returns-2
 unfolding inputOf
 returns-2 c =
     let n = c .before in
-    let y = n .before .before in
-    let c₀ = y .before .before .before in
+    let c₀ = n .before .before .before in
     let B = c₀ .args .self .bytes in
     let b = c₀ .args .b in
-    let p = getD B 464 0 in
-    let z = sym (y .type-of .ensures) ∙ n .before .if2 .taken in
     let h : length B ≡ 465 = long c₀ in
     ⊎-elim
     (λ w.
     rw (w .1)
-    (whole B (set (set B 1 p) 464 b) (c₀ .args .self .len) b (omega arith) (simp length-set (omega arith))
-    (last-wrong B b h z (sym (n .not-character .ensures) ∙ w .0 .taken))))
+    (whole B (set (set B 1 (getD B 464 0)) 464 b) (c₀ .args .self .len) b (omega arith) (simp length-set (omega arith))
+    (last-wrong B b h (sym (n .not-character .ensures) ∙ w .0 .taken))))
     (λ w.
     rw (w .1)
     (whole B (set B 464 b) (c₀ .args .self .len) b (omega arith) (simp length-set (omega arith))
-    (last-fine B b h z (sym (n .not-character .ensures) ∙ w .0 .left))))
-    (c .if3 .came)
-
-returns-3 : tie.Need-returns-3
-unfolding inputOf
-returns-3 c =
-    let c₀ = c .before .before .before .before in
-    let B = c₀ .args .self .bytes in
-    let h : length B ≡ 465 = long c₀ in
-    whole B B (c₀ .args .self .len) (c₀ .args .b) (omega arith) (omega arith)
-    (full B (c₀ .args .b) h (λ e. c .if2 .left (c .before .type-of .ensures ∙ e)))
+    (last-fine B b h (sym (n .not-character .ensures) ∙ w .0 .left))))
+    (c .if2 .came)
 
 pub push-spec : {M : Type 1} → statement M
 push-spec =
     tie.close
     (tie.spec
-    array-write-bytes
-    add-t10
+    (λ c. search needs)
+    (λ c. search needs)
     returns
-    array-read-type-of
-    type-of-requires
-    array-read-last
-    not-character-requires
-    array-write-bytes-2
-    array-write-bytes-3
-    returns-2
-    returns-3)
+    (λ c. search needs)
+    (λ c κs. search needs)
+    (λ c. search needs)
+    (λ c. search needs)
+    returns-2)

@@ -1,16 +1,17 @@
--- `replay::field::decode` is safe and ends: the loop stays within the digits, whose number does not change.
+-- `replay::field::decode` is safe and ends: it stays within the line, whose length does not change.
 use mathlib.Core.Path.{_≡_}
-use Prim.Native.Nat.{_≤_, _-_}
+use mathlib.Core.Logic.{⊎-elim}
+use Prim.Native.Nat.{_-_}
 use lib.ListN.{length}
 use borrow.Author.Needs.{needs}
 use Rattle.replay.proofs.field.decode.Statement.{statement}
 use Rattle.replay.proofs.field.decode.Tie as tie
 
 abbrev Inv-loop : tie.InvT-loop
-Inv-loop digits₀ is-good₀ i₀ i-end digits is-good i = (i ≤ length digits₀) × (i-end ≡ length digits₀) × (length digits ≡ length digits₀)
+Inv-loop line₀ i₀ i-end line i = length line ≡ length line₀
 
 abbrev μ-loop : tie.MeasureT-loop
-μ-loop digits₀ is-good₀ i₀ i-end digits is-good i = length digits₀ - i
+μ-loop line₀ i₀ i-end line i = i-end - i
 
 loop-holds : tie.Need-loop-holds Inv-loop μ-loop
 loop-holds c = search needs
@@ -21,8 +22,8 @@ slice-read-wrapping-sub-u8 c = search needs
 wrapping-sub-u8-requires : tie.Need-wrapping-sub-u8-requires Inv-loop μ-loop
 wrapping-sub-u8-requires c κs = search needs
 
-slice-write-digits : tie.Need-slice-write-digits Inv-loop μ-loop
-slice-write-digits c = search needs
+slice-write-line : tie.Need-slice-write-line Inv-loop μ-loop
+slice-write-line c = search needs
 
 add-i : tie.Need-add-i Inv-loop μ-loop
 add-i c = search needs
@@ -31,7 +32,7 @@ loop-less : tie.Need-loop-less Inv-loop μ-loop
 loop-less c = search needs
 
 loop-again : tie.Need-loop-again Inv-loop μ-loop
-loop-again c = search needs
+loop-again c = ⊎-elim (λ w. rw (w .3) (search needs)) (λ w. rw (w .1) (search needs)) (c .if1 .came)
 
 same-length : tie.Need-same-length Inv-loop μ-loop
 same-length c = search needs
@@ -48,7 +49,7 @@ decode-spec =
     loop-holds
     slice-read-wrapping-sub-u8
     wrapping-sub-u8-requires
-    slice-write-digits
+    slice-write-line
     add-i
     loop-less
     loop-again

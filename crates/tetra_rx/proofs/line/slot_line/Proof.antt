@@ -1,7 +1,7 @@
 -- `line::slot_line` meets its contract: a piece behind the other.
 use mathlib.Core.Path.{_≡_}
 use Rattle.text.specs.Text.{textOf, cut, ascii, decimal}
-use Rattle.text.proofs.Pieces.{then}
+use Rattle.text.proofs.Cutting.{then}
 use Rattle.tetra_rx.specs.Lines.{typeName, bitsField, slotLine}
 use borrow.Author.Needs.{needs}
 use Rattle.tetra_rx.proofs.line.slot_line.Statement.{statement}

@@ -3,7 +3,7 @@ use mathlib.Core.Path.{_≡_, ap, _∙_}
 use mathlib.Core.List.{append-assoc, append-nil}
 use lib.ListN.{length}
 use Rattle.text.specs.Text.{textOf, cut, ascii}
-use Rattle.text.proofs.Pieces.{then, held-whole}
+use Rattle.text.proofs.Cutting.{then, held}
 use Rattle.tetra_rx.specs.Lines.{bitsField}
 use borrow.Author.Needs.{needs}
 use Rattle.tetra_rx.proofs.line.with_bits.Statement.{statement}
@@ -27,7 +27,7 @@ unfolding bitsField
 returns-2 c =
     let t = c .before .before .args .text in
     let h : length (t .bytes) ≡ 1024 = search needs in
-    rw (c .if1 .left, append-nil (textOf t)) (held-whole t h)
+    rw (c .if1 .left, append-nil (textOf t)) (held t h)
 
 pub with-bits-spec : {M : Type 1} → statement M
 with-bits-spec =

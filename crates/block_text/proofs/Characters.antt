@@ -1,0 +1,56 @@
+-- The characters of blocks: what the code's loops and parts make of them, for any number of them.
+use mathlib.Core.Path.{_≡_, refl, sym, ap, _∙_}
+use mathlib.Core.Bool.{Bool, true, false, _||_}
+use mathlib.Core.List.{List, _++_, map}
+use Prim.Native.Nat.{ℕ, suc, _+_, _≤_, _<_}
+use native.Mathlib.Nat.{zero-add}
+use native.Mathlib.Numerals.{add-one}
+use native.Mathlib.Omega.{arith}
+use lib.ListN.{length, take, drop, getD, set, length-map, List·getD-map, drop-of-length-le, length-drop}
+use lib.Seq.{drop-cons, paste-suc, take-append-le, drop-append-le, take-all}
+use Rattle.block_text.specs.BlockText.{notCharacter, notCharacters, bitOf}
+
+-- ---- one more character is looked at
+
+pub or-assoc : (a b c : Bool) → (a || (b || c)) ≡ (a || b || c)
+or-assoc true b c = refl
+or-assoc false b c = refl
+
+or-none : (a : Bool) → (a || false) ≡ a
+or-none true = refl
+or-none false = refl
+
+pub one-more : (cs : List ℕ) (found : Bool) (i : ℕ) → i < length cs → notCharacters cs ≡ (found || notCharacters (drop i cs))
+    → notCharacters cs ≡ (found || notCharacter (getD cs i 0) || notCharacters (drop (i + 1) cs))
+unfolding notCharacters
+one-more cs found i h e = e ∙ rw (drop-cons cs i 0 h, add-one i) (or-assoc found (notCharacter (getD cs i 0)) _)
+
+pub no-more : (cs : List ℕ) (found : Bool) (i : ℕ) → length cs ≤ i → notCharacters cs ≡ (found || notCharacters (drop i cs)) → found ≡ notCharacters cs
+unfolding notCharacters
+no-more cs found i h e = sym (e ∙ rw (drop-of-length-le cs h) (or-none found))
+
+-- ---- the bits
+
+more : (d s : List ℕ) (i v : ℕ) → i < length d → i < length s → getD s i 0 ≡ v → set (take i s ++ drop i d) i v ≡ take (i + 1) s ++ drop (i + 1) d
+more d s i v h k e =
+    let z : 0 + i ≡ i = zero-add i in
+    let y : 0 + suc i ≡ suc i = zero-add (suc i) in
+    rw (← e, add-one i) (rw (z, y) at (paste-suc d 0 s i 0 (omega arith) k))
+
+pub bit-more : {w : List ℕ} {v : ℕ} (d cs : List ℕ) (i : ℕ) → w ≡ take i (map bitOf cs) ++ drop i d → v ≡ bitOf (getD cs i 0) → i < length d → i < length cs
+    → set w i v ≡ take (i + 1) (map bitOf cs) ++ drop (i + 1) d
+unfolding bitOf
+bit-more d cs i e f h k =
+    rw (e, f) (more d (map bitOf cs) i (bitOf (getD cs i 0)) h (omega (arith, length-map cs bitOf)) (List·getD-map bitOf cs i 0))
+
+pub bit-none : (d cs : List ℕ) (i : ℕ) → i ≡ length cs → take i (map bitOf cs) ++ drop i d ≡ map bitOf cs ++ drop (length cs) d
+bit-none d cs i e = rw (e, take-all (length cs) (map bitOf cs) (omega (arith, length-map cs bitOf)))
+
+-- a part of what stands first
+pub part : (M z : List ℕ) (a n : ℕ) → a + n ≤ length M → take n (drop a (M ++ z)) ≡ take n (drop a M)
+part M z a n h =
+    ap (take n) (drop-append-le a M z (omega arith)) ∙ take-append-le n (drop a M) z (omega (arith, length-drop a M))
+
+-- the last part
+pub rest : (M z : List ℕ) (a n : ℕ) → a + n ≡ length M → take n (drop a (M ++ z)) ≡ drop a M
+rest M z a n h = part M z a n (omega arith) ∙ take-all n (drop a M) (omega (arith, length-drop a M))

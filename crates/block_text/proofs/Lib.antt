@@ -1,0 +1,4 @@
+pub mod Characters
+pub mod Blocks
+mod Judged
+mod Words

@@ -1,0 +1,2 @@
+pub mod BlockText
+pub mod Lines

@@ -1,0 +1,37 @@
+-- What a line of `tetra_tx` asks for (man/tetra_tx.1). Definitions only.
+use Prim.Native.Nat.{ℕ}
+use mathlib.Core.Bool.{Bool, true, false, cond, _&&_, _||_}
+use mathlib.Core.List.{List, [], _∷_}
+use lib.Dec.{eqb}
+use lib.ListN.{length, drop}
+use Rattle.text.specs.Text.{ascii}
+use Rattle.block_text.specs.declared.line.Asked.{Asked}
+use Rattle.block_text.specs.declared.line.Asked.the-variants.{Nothing, Empty, Burst, Unknown}
+
+-- no slot, one without a burst, a burst of a type from its blocks' characters, or what is reported and sent without a burst
+pub data Wish : Type 0 where
+  none : Wish
+  silence : Wish
+  burst : ℕ → List ℕ → Wish
+  unknown : Wish
+
+unfoldable pub askedOf : List ℕ → Asked → Wish
+askedOf line Nothing = none
+askedOf line Empty = silence
+askedOf line (Burst type place) = burst type (drop place line)
+askedOf line Unknown = unknown
+
+-- a line starts with a word
+unfoldable pub startsWith : List ℕ → List ℕ → Bool
+startsWith [] line = true
+startsWith (w ∷ word) [] = false
+startsWith (w ∷ word) (b ∷ line) = eqb b w && startsWith word line
+
+-- an empty line and a remark ask for nothing
+unfoldable pub asked : List ℕ → Wish
+asked line =
+    cond (eqb (length line) 0 || startsWith (ascii "#") line) none
+    (cond (startsWith (ascii "sync ") line) (burst 4 (drop 5 line))
+    (cond (startsWith (ascii "normal1 ") line) (burst 1 (drop 8 line))
+    (cond (startsWith (ascii "normal2 ") line) (burst 2 (drop 8 line))
+    (cond (startsWith (ascii "empty") line && eqb (length line) 5) silence unknown))))
