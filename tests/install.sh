@@ -5,7 +5,7 @@ set -eu
 cd "$(dirname "$0")/.."
 work=$(mktemp -d)
 trap 'rm -rf "$work"' EXIT
-prefix=/opt/tetra
+prefix=/some/prefix
 there=$work/root$prefix
 
 fail() { echo "install: $1" >&2; exit 1; }

@@ -113,12 +113,12 @@ fn burst_of(kind: u32, characters: &[u8]) -> Burst
 }
 
 // The burst of a type, 4 sync, 1 or 2 normal, from its blocks' bits in burst order as characters 0 and 1, or their
-// refusal: 3, 4, 5 for another type, whose length is not judged.
+// refusal: 3, 4, or 5 for another type. For type 0, another letter, no length is judged.
 pub fn answer(kind: u32, characters: &[u8]) -> Burst
     ensures { λ r. ⌜ told r ≡ answerOf kind (now (characters .entry)) ⌝ }
 {
     let number = refusal_of(kind, characters);
-    if number != 0 {
+    if number != ACCEPTED {
         return Burst {
             answer: Answer::Refused(number),
             bits: [0; 510],

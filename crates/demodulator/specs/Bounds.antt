@@ -7,7 +7,7 @@ use lib.Signed.{ltZ}
 use Rattle.dsp_types.specs.Ints.{up, dn}
 use Rattle.dsp_types.specs.Refusals.{counters}
 use Rattle.dsp_types.specs.Times.{slots}
-use Rattle.demodulator.specs.Receiver.{Receiver, feedZeros}
+use Rattle.demodulator.specs.Receiver.{Receiver, lostAt, feedZeros}
 use Rattle.demodulator.specs.Windows.{handsOver, zerosWindows}
 
 -- z is at most m either side of 0
@@ -20,7 +20,7 @@ pub record Timed (k : ℕ) (r : Receiver) : Type 0 where
   pub reference : Within (2 ^ 39 + k) (r .clock .referenceTime)
   pub ready : Within (2 ^ 40) (r .clock .slotReadyTime)
   pub current : r .clock .currentSlot < slots
-  pub misses : r .lock .misses ≤ 100 + k
+  pub misses : r .lock .misses ≤ lostAt + k
 
 -- ... whose window closes: the ready time is the counter less 16
 pub record Closing (k : ℕ) (r : Receiver) : Type 0 where

@@ -12,7 +12,7 @@ use Rattle.dsp_types.specs.Refusals.{counters, beyond}
 use Rattle.fir.specs.Fir.{samplesOf}
 use Rattle.magnitude.specs.Magnitude.{magnitudeOf}
 use Rattle.demodulator.specs.Signal.{Signal, hear}
-use Rattle.demodulator.specs.Receiver.{Clock, Receiver, withNext, withSignal}
+use Rattle.demodulator.specs.Receiver.{Clock, Receiver, lostAt, withNext, withSignal}
 use Rattle.demodulator.specs.Valid.{validClock}
 
 -- samples one by one, oldest first
@@ -39,7 +39,7 @@ firstOf n re im = samplesOf (take n re) (take n im)
 -- refused, and they are all before the ready time and near it
 pub record Quiet (k : Clock) (misses : ℕ) (next c : ℤ) (n : ℕ) : Type 0 where
   pub clock : validClock k ≡ k
-  pub few : misses ≤ 100
+  pub few : misses ≤ lostAt
   pub follows : next ≡ c
   pub low : dn c ≤ 0
   pub high : up c + n ≤ counters

@@ -178,8 +178,12 @@ unfoldable pub lockAfter : Lock → Float → ℕ → Lock
 lockAfter l timing zero = record { timingError = l .timingError; misses = suc (l .misses) }
 lockAfter l timing (suc type) = record { timingError = averagedOf (l .timingError) timing; misses = 0 }
 
+-- so many misses in a row (01, "The receiver")
+abbrev pub lostAt : ℕ
+lostAt = 100
+
 unfoldable pub modeAfter : ℕ → Mode
-modeAfter misses = cond (leb 100 misses) DlUnsynchronized Dl
+modeAfter misses = cond (leb lostAt misses) DlUnsynchronized Dl
 
 unfoldable pub downlinkSlot : Receiver → BurstView → HandedSlot
 downlinkSlot r v = record { time = r .clock .currentSlot; full = v; subslot1 = r .slot .subslot1; subslot2 = r .slot .subslot2 }

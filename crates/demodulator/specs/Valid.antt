@@ -10,7 +10,7 @@ use lib.ListN.{length}
 use Rattle.dsp_types.specs.Refusals.{counters}
 use Rattle.dsp_types.specs.Times.{slots}
 use Rattle.burst_finder.specs.Slots.{mostErrors}
-use Rattle.demodulator.specs.Receiver.{Clock, Lock, BurstView, HandedSlot, Receiver, withViews, withClock, withLock, withNext, noView}
+use Rattle.demodulator.specs.Receiver.{Clock, Lock, lostAt, BurstView, HandedSlot, Receiver, withViews, withClock, withLock, withNext, noView}
 
 -- how far from 0 a reference time and a ready time may be, and the last counter that may be expected, which is one after the last
 abbrev pub farReference : ℕ
@@ -35,9 +35,9 @@ validClock c =
       currentSlot = c .currentSlot % slots;
     }
 
--- more than 100 misses count as 100
+-- more misses than lose the lock count as so many
 unfoldable pub validLock : Lock → Lock
-validLock l = record { timingError = l .timingError; misses = min 100 (l .misses) }
+validLock l = record { timingError = l .timingError; misses = min lostAt (l .misses) }
 
 -- a counter below 0 or above the last counts as 0
 unfoldable pub validCount : ℤ → ℤ

@@ -7,6 +7,7 @@ use crate::process::is_beyond;
 use crate::process::sample_refusal;
 use crate::process::valid_count;
 use crate::process::valid_time;
+use crate::window::LOST;
 use dsp_types::ACCEPTED;
 use dsp_types::ComplexSample;
 use dsp_types::LAST_COUNTER;
@@ -27,7 +28,8 @@ ghost use Rattle.demodulator.specs.View.{receiverOf, viewOf, Untouched};
 // So many samples are filtered at once: their rows fit the first level of cache.
 const PIECE: usize = 512;
 
-// Further from a window's close slots are skipped; so many counters are left behind the last that is looked at.
+// No more samples than this stand before a window's close, two slots: further off, slots are skipped. Behind LAST_QUIET there are as
+// many counters.
 const MOST_QUIET: i64 = 2040;
 
 const LAST_QUIET: i64 = LAST_COUNTER - MOST_QUIET;
@@ -86,7 +88,7 @@ impl State {
         let ready_stands = valid_time(ready, FAR_READY).is_same(ready);
         let follows = self.next_input_sample_count.is_same(counter);
         let slot_stands = self.current_slot.0 < SLOTS;
-        let misses_stand = self.slots_since_last_valid_burst <= 100;
+        let misses_stand = self.slots_since_last_valid_burst <= LOST;
         if !(reference_stands & ready_stands & follows & slot_stands & misses_stand) {
             return 0;
         }

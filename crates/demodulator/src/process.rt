@@ -3,6 +3,7 @@ use crate::Demodulator;
 use crate::State;
 use crate::clock::tdiff;
 use crate::window::Heard;
+use crate::window::LOST;
 use dsp_types::ACCEPTED;
 use dsp_types::BAD_COUNTER;
 use dsp_types::BAD_SAMPLE;
@@ -20,7 +21,7 @@ ghost use lib.IntN.{_-ℤ_};
 ghost use lib.Signed.{ltZ};
 ghost use lib.Ieee.{Float};
 ghost use Rattle.dsp_types.specs.Refusals.{counters, beyond};
-ghost use Rattle.demodulator.specs.Receiver.{closes, closeIf, processSample, missing, accept};
+ghost use Rattle.demodulator.specs.Receiver.{lostAt, closes, closeIf, processSample, missing, accept};
 ghost use Rattle.demodulator.specs.Windows.{handsOver, windowIf, windowOf, acceptWindows};
 ghost use Rattle.demodulator.specs.Valid.{validTime, validCount, valid};
 ghost use Rattle.demodulator.specs.Calls.{sampleRefusal, sampleOutcome, replyOf};
@@ -109,10 +110,10 @@ pub(crate) fn valid_count(count: SampleCount) -> SampleCount
     }
 }
 
-fn at_most_100(n: u32) -> u32
-    ensures { λ r. ⌜ r ≡ min 100 n ⌝ }
+fn valid_misses(n: u32) -> u32
+    ensures { λ r. ⌜ r ≡ min lostAt n ⌝ }
 {
-    if n < 100 { n } else { 100 }
+    if n < LOST { n } else { LOST }
 }
 
 impl State {
@@ -196,7 +197,7 @@ impl State {
         let ready = valid_time(self.slot_ready_time, FAR_READY);
         let next = valid_count(self.next_input_sample_count);
         let slot = TdmaTime(self.current_slot.to_int());
-        let misses = at_most_100(self.slots_since_last_valid_burst);
+        let misses = valid_misses(self.slots_since_last_valid_burst);
         let mut d = self;
         d.reference_time = reference;
         d.slot_ready_time = ready;

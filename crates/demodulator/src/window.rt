@@ -22,6 +22,9 @@ ghost use Rattle.demodulator.specs.Windows.{isSlot, kindOf};
 ghost use Rattle.demodulator.specs.View.{modeOf, storedView, receiverOf, signalFrom, Reads, IsWindow};
 ghost use Rattle.demodulator.specs.Bounds.{Within, Timed, Closing};
 
+// So many slots in a row without a training sequence, and the receiver searches again.
+pub(crate) const LOST: u32 = 100;
+
 // The slot that is current at a find is the one before slot 0.
 const FIRST_SLOT: i32 = 0;
 
@@ -173,7 +176,7 @@ impl State {
         }
         let misses = d.slots_since_last_valid_burst + 1;
         d.slots_since_last_valid_burst = misses;
-        if 100 <= misses {
+        if LOST <= misses {
             d.mode = 1;
         }
         d

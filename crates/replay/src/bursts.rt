@@ -4,7 +4,7 @@ use crate::output::Output;
 use slotter::Answer;
 use slotter::Burst;
 
-pub fn built(out: Output, block: &mut Block, burst: Burst) -> Output {
+pub(crate) fn built(out: Output, block: &mut Block, burst: Burst) -> Output {
     let answer = burst.answer;
     let bits = burst.bits;
     match answer {
@@ -30,7 +30,7 @@ fn number_of(low: u8, high: u8) -> u64 {
 }
 
 // Has bits judged, with so many answer bytes.
-pub fn judge(out: Output, block: &mut Block, kind: u32, len: usize, bits: &[u8]) -> Output {
+pub(crate) fn judge(out: Output, block: &mut Block, kind: u32, len: usize, bits: &[u8]) -> Output {
     let mut answer = [0u8; 4096];
     let number = judge_with(kind, bits, &mut answer, len);
     if number != 0 {

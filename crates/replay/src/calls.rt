@@ -282,6 +282,6 @@ fn front(line: &mut [u8], len: usize) -> Call {
 }
 
 // Reads a line of that length. The bits that its call takes then lie in it as bytes.
-pub fn read(line: &mut Block, len: usize) -> Call {
+pub(crate) fn read(line: &mut Block, len: usize) -> Call {
     front(line, len)
 }

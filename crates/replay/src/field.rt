@@ -35,7 +35,7 @@ pub enum Bits {
 }
 
 // The part of a slice; empty where that does not lie within it.
-pub fn part(s: &[u8], from: usize, to: usize) -> &[u8] {
+pub(crate) fn part(s: &[u8], from: usize, to: usize) -> &[u8] {
     if to < from {
         return &s[0..0];
     }
@@ -55,7 +55,7 @@ fn add_end(ends: &mut [usize; 5], count: usize, at: usize) -> usize {
     }
 }
 
-pub fn split(line: &[u8]) -> Fields {
+pub(crate) fn split(line: &[u8]) -> Fields {
     let mut count: usize = 0;
     let mut ends = [0usize; 5];
     for i in 0..line.len() {
@@ -81,12 +81,12 @@ fn span_of(fields: Fields, k: usize) -> Span {
 }
 
 // The text of field k.
-pub fn text(line: &[u8], fields: Fields, k: usize) -> &[u8] {
+pub(crate) fn text(line: &[u8], fields: Fields, k: usize) -> &[u8] {
     let at = span_of(fields, k);
     part(line, at.from, at.to)
 }
 
-pub fn is(text: &[u8], word: &[u8]) -> bool {
+pub(crate) fn is(text: &[u8], word: &[u8]) -> bool {
     if text.len() != word.len() {
         return false;
     }
@@ -99,7 +99,7 @@ pub fn is(text: &[u8], word: &[u8]) -> bool {
 }
 
 // The byte of a text that has no other, else 0.
-pub fn letter(text: &[u8]) -> u8 {
+pub(crate) fn letter(text: &[u8]) -> u8 {
     if text.len() == 1 { text[0] } else { 0 }
 }
 
@@ -119,7 +119,7 @@ fn with_digit(value: u64, byte: u8, most: u64) -> Number {
 }
 
 // A number from 0 to `most`, in decimal digits.
-pub fn read_number(text: &[u8], most: u64) -> Number {
+pub(crate) fn read_number(text: &[u8], most: u64) -> Number {
     if text.len() == 0 {
         return Number::Bad;
     }
@@ -148,7 +148,7 @@ fn minus(value: u64) -> i64 {
 }
 
 // A decimal i64.
-pub fn read_counter(text: &[u8]) -> Counter {
+pub(crate) fn read_counter(text: &[u8]) -> Counter {
     if is(part(text, 0, 1), b"-") {
         return match read_number(part(text, 1, text.len()), 0x8000_0000_0000_0000) {
             Number::Of(value) => Counter::Of(SampleCount(minus(value))),
@@ -188,7 +188,7 @@ fn pattern(text: &[u8]) -> Number {
 }
 
 // A number that is known to fit, else the largest that does.
-pub fn narrow(value: u64) -> u32 {
+pub(crate) fn narrow(value: u64) -> u32 {
     if value <= 0xffff_ffff {
         value as u32
     } else {
@@ -197,7 +197,7 @@ pub fn narrow(value: u64) -> u32 {
 }
 
 // The sample in fields k and k + 1.
-pub fn read_sample(line: &[u8], fields: Fields, k: usize) -> Sample {
+pub(crate) fn read_sample(line: &[u8], fields: Fields, k: usize) -> Sample {
     let Number::Of(re) = pattern(text(line, fields, k)) else {
         return Sample::Bad;
     };
@@ -220,7 +220,7 @@ fn are_digits(text: &[u8]) -> bool {
 }
 
 // The digits in field k, behind its `=`.
-pub fn read_digits(line: &[u8], fields: Fields, k: usize) -> Bits {
+pub(crate) fn read_digits(line: &[u8], fields: Fields, k: usize) -> Bits {
     let field = span_of(fields, k);
     let from = field.from;
     let to = field.to;
@@ -249,7 +249,7 @@ fn decode(line: &mut [u8], at: Span) {
 }
 
 // The bits in field k, `=` and a digit each. The line has their values afterwards.
-pub fn read_bits(line: &mut [u8], fields: Fields, k: usize) -> Bits {
+pub(crate) fn read_bits(line: &mut [u8], fields: Fields, k: usize) -> Bits {
     let Bits::At(at) = read_digits(&*line, fields, k) else {
         return Bits::Bad;
     };

@@ -26,7 +26,7 @@ struct Part {
 }
 
 impl Input {
-    pub fn new() -> Input {
+    pub(crate) fn new() -> Input {
         Input { len: 0, used: 0 }
     }
 }
@@ -90,7 +90,7 @@ fn line_of(len: usize, is_end: bool, input: Input) -> Line {
 }
 
 // Moves the next line, without its newline, to the line's block.
-pub fn next_line(block: &mut Block, input: Input, line: &mut Block) -> Line {
+pub(crate) fn next_line(block: &mut Block, input: Input, line: &mut Block) -> Line {
     let mut part = move_part(&*block, input, line, 0);
     let mut turns = u64::MAX;
     while turns > 0 && !part.is_whole {

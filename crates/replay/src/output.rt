@@ -12,7 +12,7 @@ pub struct Output {
 }
 
 impl Output {
-    pub fn new() -> Output {
+    pub(crate) fn new() -> Output {
         Output {
             len: 0,
             is_broken: false,
@@ -20,7 +20,7 @@ impl Output {
     }
 
     // Writes out what the block holds; nothing after a write that failed.
-    pub fn flush(self, block: &Block) -> Output {
+    pub(crate) fn flush(self, block: &Block) -> Output {
         if self.is_broken {
             return Output {
                 len: 0,
@@ -60,17 +60,17 @@ impl Output {
         out
     }
 
-    pub fn text(self, block: &mut Block, text: &[u8]) -> Output {
+    pub(crate) fn text(self, block: &mut Block, text: &[u8]) -> Output {
         self.bytes(block, text, 0)
     }
 
     // A decimal digit for each number from 0 to 9.
-    pub fn digits(self, block: &mut Block, numbers: &[u8]) -> Output {
+    pub(crate) fn digits(self, block: &mut Block, numbers: &[u8]) -> Output {
         self.bytes(block, numbers, b'0')
     }
 
     // A space and a number.
-    pub fn number(self, block: &mut Block, n: u64) -> Output {
+    pub(crate) fn number(self, block: &mut Block, n: u64) -> Output {
         let mut text = [0u8; 20];
         let k = io::decimal(n, &mut text);
         self.text(block, b" ").text(block, &text[..k])
@@ -83,18 +83,18 @@ impl Output {
         self.text(block, &text[..k])
     }
 
-    pub fn float(self, block: &mut Block, x: f32) -> Output {
+    pub(crate) fn float(self, block: &mut Block, x: f32) -> Output {
         self.hex(block, x).text(block, b"\n")
     }
 
-    pub fn sample(self, block: &mut Block, x: ComplexSample) -> Output {
+    pub(crate) fn sample(self, block: &mut Block, x: ComplexSample) -> Output {
         self.text(block, b"out ")
             .hex(block, x.re)
             .text(block, b" ")
             .float(block, x.im)
     }
 
-    pub fn refused(self, block: &mut Block, number: u32) -> Output {
+    pub(crate) fn refused(self, block: &mut Block, number: u32) -> Output {
         self.text(block, b"refused")
             .number(block, number as u64)
             .text(block, b"\n")

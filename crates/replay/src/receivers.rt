@@ -99,7 +99,7 @@ fn error(receiver: Receiver, out: Output, block: &mut Block) -> Served {
 }
 
 impl Receiver {
-    pub fn new() -> Receiver {
+    pub(crate) fn new() -> Receiver {
         Receiver {
             is_made: false,
             state: Demodulator::new(Mode::Idle),
@@ -150,7 +150,7 @@ impl Receiver {
     }
 
     // Follows another receiver.
-    pub fn follow(self, out: Output, block: &mut Block, other: Receiver) -> Served {
+    pub(crate) fn follow(self, out: Output, block: &mut Block, other: Receiver) -> Served {
         if !(self.is_made & other.is_made) {
             return error(self, out, block);
         }
@@ -167,7 +167,7 @@ impl Receiver {
     }
 
     // Does what is asked.
-    pub fn serve(self, out: Output, block: &mut Block, asked: Asked) -> Served {
+    pub(crate) fn serve(self, out: Output, block: &mut Block, asked: Asked) -> Served {
         match asked {
             Asked::New(mode) => Served {
                 receiver: Receiver::made(Demodulator::new(mode)),

@@ -64,7 +64,7 @@ fn answer(out: Output, block: &mut Block, line: &Block, call: Call) -> Output {
 }
 
 impl Session {
-    pub fn new() -> Session {
+    pub(crate) fn new() -> Session {
         Session {
             filter: FirComplexSym::new(),
             is_sending: false,
@@ -137,7 +137,7 @@ impl Session {
     }
 
     // Makes a call whose bits lie in the line.
-    pub fn step(self, out: Output, block: &mut Block, line: &Block, call: Call) -> Step {
+    pub(crate) fn step(self, out: Output, block: &mut Block, line: &Block, call: Call) -> Step {
         match call {
             Call::NewLine => self.new_line(out, block),
             Call::Filter(x) => self.push(out, block, x),

@@ -68,7 +68,7 @@ fn one_more(taken: usize, count: usize) -> usize
 }
 
 impl Listener {
-    pub fn new() -> Listener {
+    pub(crate) fn new() -> Listener {
         let receiver = State::new(Mode::DlUnsynchronized);
         Listener {
             receiver,
@@ -175,7 +175,7 @@ impl Listener {
     }
 
     // Hears a block of samples, re and im in turn.
-    pub fn hear(
+    pub(crate) fn hear(
         self,
         re: &mut [f32; 2048],
         im: &mut [f32; 2048],
@@ -201,7 +201,7 @@ impl Listener {
     }
 
     // Tells the whole run.
-    pub fn summary(self) {
+    pub(crate) fn summary(self) {
         let receiver = self.receiver;
         let counts = Text::new()
             .append(b"tetra_rx: ")

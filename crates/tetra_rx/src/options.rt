@@ -22,7 +22,7 @@ impl Options {
     }
 }
 
-pub fn read() -> Options {
+pub(crate) fn read() -> Options {
     let mut options = Options {
         is_help: false,
         is_quiet: false,

@@ -30,7 +30,7 @@ fn write_samples(parts: &[f32]) -> bool {
 }
 
 impl Sender {
-    pub fn new() -> Sender {
+    pub(crate) fn new() -> Sender {
         let modulator = Modulator::new();
         let mapper = DqpskMapper::new();
         Sender {
@@ -92,7 +92,7 @@ impl Sender {
     }
 
     // Sends a slot without a burst.
-    pub fn silence(self) -> Sender {
+    pub(crate) fn silence(self) -> Sender {
         self.send(false, b"")
     }
 
@@ -131,7 +131,7 @@ impl Sender {
     }
 
     // Sends the slot that a line asks for.
-    pub fn line(self, line: &[u8]) -> Sender {
+    pub(crate) fn line(self, line: &[u8]) -> Sender {
         let mut next = self;
         next.lines = std::num::wrapping_add_u64(self.lines, 1);
         let asked = block_text::read(line);

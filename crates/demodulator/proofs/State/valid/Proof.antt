@@ -18,8 +18,8 @@ valid-count-requires c κs = search needs
 to-int-requires : tie.Need-to-int-requires
 to-int-requires c κs = search needs
 
-at-most-100-requires : tie.Need-at-most-100-requires
-at-most-100-requires c κs = search needs
+valid-misses-requires : tie.Need-valid-misses-requires
+valid-misses-requires c κs = search needs
 
 returns : tie.Need-returns
 unfolding receiverOf withClock withLock withNext
@@ -31,7 +31,7 @@ returns c =
     (n .before .valid-time2 .ensures)
     (n .valid-count .ensures)
     (c .before .to-int .ensures)
-    (c .at-most-100 .ensures)
+    (c .valid-misses .ensures)
 
 pub valid-spec : {M : Type 1} → statement M
 valid-spec =
@@ -41,5 +41,5 @@ valid-spec =
     valid-time-requires-2
     valid-count-requires
     to-int-requires
-    at-most-100-requires
+    valid-misses-requires
     returns)
