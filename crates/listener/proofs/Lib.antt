@@ -1,0 +1,3 @@
+mod Rows
+mod Hearing
+pub mod Reading

@@ -1,0 +1,8 @@
+pub mod Signed
+pub mod Times
+mod Views
+pub mod Doors
+pub mod Keeping
+mod Taking
+mod Handing
+pub mod Outcomes
