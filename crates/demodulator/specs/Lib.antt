@@ -1,9 +1,1 @@
-pub mod Signal
-pub mod Receiver
-pub mod Windows
-pub mod Valid
-pub mod Calls
-pub mod Feed
 pub mod View
-pub mod Bounds
-pub mod Quiet

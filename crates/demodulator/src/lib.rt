@@ -1,86 +1,142 @@
-// The receiver (demodulator.rs): samples in, slots with their number and bursts out.
-mod clock;
-mod feed;
-mod follow;
-mod listen;
-mod new;
-mod process;
-mod take;
-mod window;
-
+// The receiver by value, as the source has it (demodulator.rs): the reference. The calls on a state with its past lent are the same
+// without the copies.
+use dsp_types::ComplexSample;
 use dsp_types::SampleCount;
-use dsp_types::TdmaTime;
-pub use feed::Fed;
-pub use feed::StateFed;
-pub use feed::Stop;
-use fir::FirComplexSym;
 use history::History;
-pub use process::Answer;
-pub use process::Answered;
-pub use process::StateAnswered;
-pub use take::StateTaken;
-pub use take::TakeAnswer;
-pub use take::Taken;
+use receiver::State;
+use receiver::Stop;
+use slot_receiver::Answer;
+use slot_receiver::Mode;
+use slot_receiver::TakeAnswer;
+ghost use mathlib.Core.Path.{_≡_};
+ghost use mathlib.Core.List.{[], _∷_};
+ghost use Prim.Native.Nat.{ℕ};
+ghost use Rattle.slot_receiver.specs.Receiver.{new};
+ghost use Rattle.slot_receiver.specs.Calls.{sampleOutcome, takeOutcome, followOutcome, replyOf, takeReplyOf, inNumbers};
+ghost use Rattle.slot_receiver.specs.View.{modeNumber, modeOf, modeFollowing};
+ghost use Rattle.receiver.specs.Feed.{interleaved, feedOf};
+ghost use Rattle.demodulator.specs.View.{viewOf};
 
-pub enum Mode {
-    // Do nothing: an uplink receiver whose downlink receiver is unsynchronized.
-    Idle,
-    // Downlink, slot timing unknown: look for a synchronization sequence in overlapping windows.
-    DlUnsynchronized,
-    // Downlink with known slot timing.
-    Dl,
-    // Uplink.
-    Ul,
-}
-
-// A burst found in a window: its training sequence as 01's number and that one's wrong bits, its place in the window's
-// bits and its length.
-#[repr(C)]
-pub struct RxBurst {
-    pub train_type: u8,
-    pub train_errs: usize,
-    pub burst_pos: usize,
-    pub burst_len: usize,
-}
-
-// A slot that was handed over (rxtx_dev.rs `RxSlotBits`): its number, and the bursts in it and in its halves.
-#[repr(C)]
-pub struct RxSlot {
-    pub time: TdmaTime,
-    pub full: RxBurst,
-    pub subslot1: RxBurst,
-    pub subslot2: RxBurst,
-}
-
-// All of a receiver but its past: it goes by value. Modes and training sequences are numbers, so that C can hold one. A
-// stored number that no call could have left counts as a valid one.
-#[repr(C)]
-pub struct State {
-    // 0 Idle, 1 DlUnsynchronized, 2 Dl, 3 Ul.
-    pub mode: u8,
-    // Sample counter at the beginning of hyperframe number 0.
-    pub reference_time: SampleCount,
-    // Sample counter when the current slot is ready to be demodulated from past samples.
-    pub slot_ready_time: SampleCount,
-    pub current_slot: TdmaTime,
-    pub next_input_sample_count: SampleCount,
-    // Tracks slot timing in the downlink.
-    pub averaged_timing_error: f32,
-    pub slots_since_last_valid_burst: u32,
-    // The slot demodulated last, whether it waits to be taken, and its windows' bits: 510, and 254 of each half.
-    pub demodulated_slot_available: bool,
-    pub demodulated_slot: RxSlot,
-    pub full_bits: [u8; 510],
-    pub subslot1_bits: [u8; 510],
-    pub subslot2_bits: [u8; 510],
-    pub matched_filter: FirComplexSym,
-    // Where the newest sample stands in the rings of the past.
-    pub past_index: usize,
-}
-
-// The receiver by value: the reference. The calls on a state with its past lent are the same without the copies.
 #[repr(C)]
 pub struct Demodulator {
     pub state: State,
     pub past: History,
+}
+
+pub struct Answered {
+    pub answer: Answer,
+    pub receiver: Demodulator,
+}
+
+pub struct Fed {
+    pub taken: usize,
+    pub stop: Stop,
+    pub receiver: Demodulator,
+}
+
+pub struct Taken {
+    pub answer: TakeAnswer,
+    pub receiver: Demodulator,
+}
+
+impl Demodulator {
+    pub fn new(initial_mode: Mode) -> Demodulator
+        ensures receiver { λ r. ⌜ viewOf r ≡ new «initial_mode» ⌝ }
+        ensures mode { λ r. ⌜ r .state .slots .mode ≡ modeNumber «initial_mode» ⌝ }
+    {
+        let state = State::new(initial_mode);
+        let past = History::new();
+        Demodulator { state, past }
+    }
+
+    // Takes one sample, or refuses it and stays as it is.
+    pub fn sample(self, input: ComplexSample, sample_counter: SampleCount) -> Answered
+        ensures answer { λ r. ⌜ replyOf (r .answer) ≡ sampleOutcome (viewOf self) input («sample_counter» .0) .reply ⌝ }
+        ensures receiver { λ r. ⌜ viewOf (r .receiver) ≡ sampleOutcome (viewOf self) input («sample_counter» .0) .receiver ⌝ }
+        ensures refused { λ r. ⌜ ((n : ℕ) → r .answer ≡ Answer.Refused n → r .receiver ≡ self) ⌝ }
+    {
+        let state = self.state;
+        let past = self.past;
+        let mut re = past.re;
+        let mut im = past.im;
+        let mut abs = past.abs;
+        let sampled = state.sample(&mut re, &mut im, &mut abs, input, sample_counter);
+        let answer = sampled.answer;
+        let next = sampled.state;
+        Answered {
+            answer,
+            receiver: Demodulator {
+                state: next,
+                past: History { re, im, abs },
+            },
+        }
+    }
+
+    // Takes samples, re and im in turn, with the counters from first on: up to one that hands a slot over, or to one
+    // that is refused, which is not taken. Where none is taken, the receiver stays as it is.
+    pub fn feed(self, samples: &[f32], first: SampleCount) -> Fed
+        ensures taken { λ r. ⌜ r .taken ≡ feedOf (viewOf self) (interleaved (now (samples .entry))) (first .0) .taken ⌝ }
+        ensures stop { λ r. ⌜ r .stop ≡ feedOf (viewOf self) (interleaved (now (samples .entry))) (first .0) .stop ⌝ }
+        ensures receiver { λ r. ⌜ viewOf (r .receiver) ≡ feedOf (viewOf self) (interleaved (now (samples .entry))) (first .0) .receiver ⌝ }
+        ensures refused { λ r. ⌜ (r .taken ≡ 0 → r .receiver ≡ self) ⌝ }
+    {
+        let state = self.state;
+        let past = self.past;
+        let mut re = past.re;
+        let mut im = past.im;
+        let mut abs = past.abs;
+        let fed = state.feed(&mut re, &mut im, &mut abs, samples, first);
+        let stop = fed.stop;
+        let next = fed.state;
+        Fed {
+            taken: fed.taken,
+            stop,
+            receiver: Demodulator {
+                state: next,
+                past: History { re, im, abs },
+            },
+        }
+    }
+
+    // Takes the slot that waits: its views fill 510, 254 and 254 lent bytes. Or refuses, and everything stays as it is.
+    pub fn take_demodulated_slot(
+        self,
+        slot: &mut [u8],
+        subslot1: &mut [u8],
+        subslot2: &mut [u8],
+    ) -> Taken
+        ensures answer { λ r. ⌜ takeReplyOf (r .answer) ≡ inNumbers (takeOutcome (viewOf self) (now (slot .entry)) (now (subslot1 .entry)) (now (subslot2 .entry)) .reply) ⌝ }
+        ensures receiver { λ r. ⌜ viewOf (r .receiver) ≡ takeOutcome (viewOf self) (now (slot .entry)) (now (subslot1 .entry)) (now (subslot2 .entry)) .receiver ⌝ }
+        ensures lent { λ r. ⌜ now (slot .exit) ∷ now (subslot1 .exit) ∷ now (subslot2 .exit) ∷ [] ≡ takeOutcome (viewOf self) (now (slot .entry)) (now (subslot1 .entry)) (now (subslot2 .entry)) .lent ⌝ }
+        ensures refused { λ r. ⌜ ((n : ℕ) → r .answer ≡ TakeAnswer.Refused n → r .receiver ≡ self) ⌝ }
+    {
+        let state = self.state;
+        let past = self.past;
+        let taken = state.take_demodulated_slot(slot, subslot1, subslot2);
+        let answer = taken.answer;
+        let next = taken.state;
+        Taken {
+            answer,
+            receiver: Demodulator { state: next, past },
+        }
+    }
+
+    // Takes the slot timing of another receiver. A receiver that finds its own is refused.
+    pub fn sync_to_demodulator(self, demod: Demodulator) -> Answered
+        ensures answer { λ r. ⌜ replyOf (r .answer) ≡ followOutcome (viewOf self) (viewOf demod) .reply ⌝ }
+        ensures receiver { λ r. ⌜ viewOf (r .receiver) ≡ followOutcome (viewOf self) (viewOf demod) .receiver ⌝ }
+        ensures mode { λ r. ⌜ (r .answer ≡ Answer.Accepted → r .receiver .state .slots .mode ≡ modeFollowing (modeOf (demod .state .slots .mode)) (self .state .slots .mode)) ⌝ }
+        ensures refused { λ r. ⌜ ((n : ℕ) → r .answer ≡ Answer.Refused n → r .receiver ≡ self) ⌝ }
+    {
+        let state = self.state;
+        let past = self.past;
+        let other = demod.state;
+        let followed = state.sync_to_demodulator(other);
+        let answer = followed.answer;
+        let next = followed.state;
+        Answered {
+            answer,
+            receiver: Demodulator { state: next, past },
+        }
+    }
 }

@@ -20,7 +20,7 @@ use Rattle.slot_receiver.proofs.Doors.{valid-within}
 
 -- ---- tests
 
-and-true : (a b : Bool) → (a && b) ≡ true → (a ≡ true) × (b ≡ true)
+pub and-true : (a b : Bool) → (a && b) ≡ true → (a ≡ true) × (b ≡ true)
 and-true true b e = (refl, e)
 and-true false b e = absurd (let z : _≡_ {A = ℕ} 0 1 = cc in omega arith)
 
@@ -52,7 +52,7 @@ pub record Stands (k : Clock) (misses : ℕ) : Type 0 where
   pub ready : Within (2 ^ 40) (k .slotReadyTime)
   pub few : misses ≤ lostAt
 
-alike : (x y : ℤ) → eqZ x y ≡ true → x ≡ y
+pub alike : (x y : ℤ) → eqZ x y ≡ true → x ≡ y
 alike x y e = same x y (eqZ-true x y e)
 
 pub stands-as : (k : Clock) (misses : ℕ) → stands k misses ≡ true → Stands k misses

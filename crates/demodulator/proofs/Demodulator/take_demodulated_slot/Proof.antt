@@ -1,6 +1,6 @@
 -- `Demodulator::take_demodulated_slot` meets its contract: the state's, with the past beside it.
 use mathlib.Core.Path.{ap}
-use Rattle.demodulator.specs.declared.State.{State}
+use Rattle.receiver.specs.declared.State.{State}
 use Rattle.demodulator.specs.View.{viewOf}
 use borrow.Author.Needs.{needs}
 use Rattle.demodulator.proofs.Demodulator.take_demodulated_slot.Statement.{statement}

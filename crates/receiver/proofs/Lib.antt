@@ -1,0 +1,6 @@
+mod Samples
+mod Handing
+mod Feeding
+mod Keeping
+mod Rows
+mod Views

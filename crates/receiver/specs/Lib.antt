@@ -1,0 +1,4 @@
+pub mod Feed
+pub mod View
+pub mod Keep
+pub mod Hearing
