@@ -9,13 +9,14 @@ use lib.IntN.{ℤ, pos, _+ℤ_, _-ℤ_}
 use Rattle.dsp_types.specs.declared.ComplexSample.{ComplexSample}
 use Rattle.dsp_types.specs.Ints.{up}
 use Rattle.dsp_types.specs.Refusals.{wrongLength, counters}
-use Rattle.demodulator.specs.Signal.{Signal, hear}
-use Rattle.demodulator.specs.Receiver as R
-use Rattle.demodulator.specs.declared.Mode.{Mode}
-use Rattle.demodulator.specs.declared.Mode.the-variants.{DlUnsynchronized}
-use Rattle.demodulator.specs.Receiver.{Clock, Lock, HandedSlot, Receiver, withWaits, withNext, new, processSample, missing, feedZeros, accept}
-use Rattle.demodulator.specs.Windows.{Window, windowOf, zerosWindows, acceptWindows}
-use Rattle.demodulator.specs.Calls.{Reply, refused, done, took, unless, sampleRefusal, sampled, sampleOutcome, takeRefusal, taken, takeOutcome, followRefusal, followOutcome}
+use Rattle.listener.specs.Signal.{Signal, hear}
+use Rattle.slot_receiver.specs.Receiver as R
+use Rattle.slot_receiver.specs.declared.Mode.{Mode}
+use Rattle.slot_receiver.specs.declared.Mode.the-variants.{DlUnsynchronized}
+use Rattle.slot_receiver.specs.Receiver.{Clock, Lock, Receiver, withWaits, withNext, new, processSample, missing, feedZeros, accept}
+use Rattle.rx_slot.specs.Slots.{HandedSlot, noSlot}
+use Rattle.slot_receiver.specs.Windows.{Window, windowOf, zerosWindows, acceptWindows}
+use Rattle.slot_receiver.specs.Calls.{Reply, refused, done, took, unless, sampleRefusal, sampled, sampleOutcome, takeRefusal, taken, takeOutcome, followRefusal, followOutcome}
 use Rattle.account.specs.CallList as CallList
 use Rattle.account.specs.CallList.{Call, sample, follow, outcome, after, answers, closed}
 use Rattle.account.specs.Rules.{Account}
@@ -24,7 +25,7 @@ use Rattle.account.specs.Account
 use Rattle.account.specs.Account.{Waiting, nothing, waits, changed, lastHanded, newer, sized, seenIf, seen, answered, toldTake, modeOf, accountOf, heard, ifAccepted, nextCounter, Counted, expected, expectedAll}
 use Rattle.account.proofs.Times.{none-missing}
 use Rattle.account.proofs.Simulation.{Timed, searching, fresh, steady, Waits, Stepped, stepped, over}
-use Rattle.account.proofs.Bounds.{Within, Accepted, accepted-at, valid-same, slot-same, sample-within, taken-within, new-within}
+use Rattle.account.proofs.Bounds.{Within, Accepted, accepted-at, valid-count, valid-same, slot-same, sample-within, taken-within, new-within}
 
 -- ---- windows
 pub newer-cons : (k : ℕ) (w : Window) (ws : List Window) → k ≤ length ws → newer k (w ∷ ws) ≡ w ∷ newer k ws
@@ -51,14 +52,15 @@ pub record Leaves (r : Receiver) (c : Call) (r′ : Receiver) (w : List Window) 
 
 sample-refuses : (r : Receiver) (x : ComplexSample) (c : ℤ) (k : ℕ) → Within r → sampleRefusal (r .next) x c ≡ suc k → Leaves r (sample x c) r [] (refused (suc k))
 unfolding outcome sampleOutcome unless
-sample-refuses r x c k w e = record { after = rw (valid-same r w, e); windows = rw (valid-same r w, e); answer = rw (valid-same r w, e) }
+sample-refuses r x c k w e = let v = valid-count r w in record { after = rw (v, e); windows = rw (v, e); answer = rw (v, e) }
 
 sample-accepts : (r : Receiver) (x : ComplexSample) (c : ℤ) (n : ℕ) → Within r → sampleRefusal (r .next) x c ≡ 0 → r .next ≡ pos n → c ≡ pos n
     → Leaves r (sample x c) (withNext (processSample r x (pos n)) (pos n +ℤ pos 1)) (windowOf r x (pos n) ++ []) done
-unfolding outcome sampleOutcome unless sampled accept acceptWindows feedZeros zerosWindows
+unfolding outcome sampleOutcome unless sampled accept acceptWindows R.zerosBefore feedZeros zerosWindows
 sample-accepts r x c n w e p q =
     let m : missing (c -ℤ r .next) ≡ 0 = rw (p, q) (none-missing n) in
-    record { after = rw (valid-same r w, e, m, q); windows = rw (valid-same r w, e, m, q); answer = rw (valid-same r w, e) }
+    let v = valid-count r w in
+    record { after = rw (v, e, m, q); windows = rw (v, e, m, q); answer = rw (v, e) }
 
 follow-refused : (r other : Receiver) (b : Bool) → r .mode ≡ modeOf b → Leaves r (follow other) r [] (refused 13)
 unfolding outcome followOutcome followRefusal unless modeOf
@@ -112,7 +114,7 @@ pub record Agree (cs : List Call) : Type 0 where
   pub answered : answers cs ≡ expectedAll cs
 
 agree-new : Agree []
-unfolding after new R.noSlot R.setSlot R.slotReadyFromBegin nextCounter heard signalOf tracked Account.waiting Account.seen accountOf account lastHanded newer closed answers expectedAll
+unfolding after new noSlot R.setSlot R.slotReadyFromBegin nextCounter heard signalOf tracked Account.waiting Account.seen accountOf account lastHanded newer closed answers expectedAll
 agree-new = record {
   within = new-within DlUnsynchronized;
   next = refl;
@@ -272,7 +274,7 @@ agree-accepted x c cs e q g =
     let few : n < counters = omega (arith, a .below, ap up (sym (a .is) ∙ q)) in
     accepts x c cs (processSample r x (pos n)) (windowOf r x (pos n)) g (sample-accepts r x c n (g .within) (rw (g .next) e) (g .next ∙ g .counted) q) e q
     (subst (λ (s : Signal). Stepped r (processSample r x (pos n)) (windowOf r x (pos n)) n s (tracked (heard cs)) (turn (tracked (heard cs)) n s))
-    (ap (λ (s : Signal). hear s x) (g .signal)) (stepped r x n (tracked (heard cs)) (g .timed) (g .waiting .whole) few))
+    (ap (λ (s : Signal). hear s x) (g .signal)) (stepped r x n (tracked (heard cs)) (valid-same r (g .within)) (g .timed) (g .waiting .whole) few))
 
 -- ---- THE SIMULATION: after every list of calls the receiver agrees with the account
 pub agree : (cs : List Call) → Counted cs → Agree cs

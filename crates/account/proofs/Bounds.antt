@@ -20,20 +20,22 @@ use Rattle.dsp_types.specs.Refusals.{beyond, outOfCount, counters, lastCounter}
 use Rattle.dsp_types.specs.Samples.{silence}
 use Rattle.dsp_types.specs.Times.{slots, slotOf}
 use Rattle.burst_finder.specs.Search.{findSync}
-use Rattle.demodulator.specs.Signal.{windowBits}
-use Rattle.demodulator.specs.Receiver as R
-use Rattle.demodulator.specs.declared.Mode.{Mode}
-use Rattle.demodulator.specs.declared.Mode.the-variants.{Idle, DlUnsynchronized, Dl, Ul}
-use Rattle.demodulator.specs.Receiver.{Clock, Lock, BurstView, Receiver, withMode, withClock, withLock, withWaits, withSlot, withNext, withSignal, new, setSlot, addSlots, processSample, closeWindow, missing, feedZeros, accept}
-use Rattle.demodulator.specs.Valid.{validTime, validClock, validLock, validCount, valid, validSlot, farReference, farReady}
-use Rattle.demodulator.specs.Calls.{Outcome, unless, sampleRefusal, sampled, sampleOutcome, takeRefusal, taken, takeOutcome, followRefusal, slotWhen, following, followed, followOutcome}
+use Rattle.listener.specs.Signal.{windowBits}
+use Rattle.slot_receiver.specs.Receiver as R
+use Rattle.slot_receiver.specs.declared.Mode.{Mode}
+use Rattle.slot_receiver.specs.declared.Mode.the-variants.{Idle, DlUnsynchronized, Dl, Ul}
+use Rattle.slot_receiver.specs.Receiver.{Clock, Lock, Receiver, withMode, withClock, withLock, withWaits, withSlot, withNext, withSignal, new, setSlot, addSlots, processSample, closeWindow, missing, feedZeros, accept, validTime, validClock, validLock, validCount, valid, farReference, farReady}
+use Rattle.rx_slot.specs.Views.{BurstView}
+use Rattle.rx_slot.specs.Slots.{noSlot, validSlot}
+use Rattle.slot_receiver.specs.Calls.{Outcome, unless, sampleRefusal, sampled, sampleOutcome, takeRefusal, taken, takeOutcome, followRefusal, slotWhen, following, followed, followOutcome}
 use Rattle.account.specs.Reachable as Reachable
 use Rattle.account.specs.Reachable.{Reachable, anew, told}
 use Rattle.account.proofs.Laws.{Placed, placed}
 use Rattle.account.proofs.Times.{ready-parts, found-parts}
 use Rattle.account.proofs.Views.{Views, none-valid, valid-slot}
 use Rattle.account.proofs.Simulation.{shifted, shifted-parts, gap-span, advanced, advances}
-use Rattle.account.proofs.Numbers.{accept-step}
+use Rattle.account.proofs.Simulation.{valid-heard}
+use Rattle.account.proofs.Numbers.{process-step, accept-step}
 
 -- ---- what a receiver that expects the counter n is bounded by
 
@@ -263,16 +265,52 @@ unfolding R.skipIf R.listen withClock withSignal
 skip-bounded true t r x k few b = record { timely = timely-add (r .mode) (r .clock) (R.slotsToSkip t) k (omega arith) (b .timely); misses = b .misses }
 skip-bounded false t r x k few b = record { timely = b .timely; misses = b .misses }
 
-pub process-bounded : (r : Receiver) (x : ComplexSample) (n k : ℕ) → n ≤ k → k < counters → Bounded r n → Bounded (processSample r x (pos k)) (suc k)
-unfolding processSample R.arrived R.closes
-process-bounded r x n k h few b =
-    close-bounded _ (R.skipIf (R.far (R.tdiff r (pos k))) (R.tdiff r (pos k)) (R.listen r x)) k refl few (skip-bounded _ (R.tdiff r (pos k)) r x k few (bounded-more r n k h b))
+-- a receiver within its bounds is read as it is
+valid-time : (most : ℕ) (z : ℤ) → up z ≤ most → dn z ≤ most → validTime most z ≡ z
+unfolding validTime
+valid-time most (pos n) h k = rw (le-leb n most h)
+valid-time most (negsuc n) h k = rw (le-leb n most (omega arith))
 
-zeros-bounded : (j : ℕ) (r : Receiver) (n k : ℕ) → n + j ≤ k → k < counters → Bounded r n → Bounded (feedZeros j r (pos k)) k
+module _ (r : Receiver) (n : ℕ) (b : Bounded r n) (most : n ≤ counters) (current : r .clock .currentSlot < slots) where
+  clock-same : validClock (r .clock) ≡ r .clock
+  unfolding validClock
+  clock-same =
+      let t : Timely (r .mode) (r .clock) n = b .timely in
+      let m = reach-most (r .mode) n most in
+      let z = valid-time farReference (r .clock .referenceTime) (omega (arith, t, m)) (omega (arith, t, m)) in
+      let y = valid-time farReady (r .clock .slotReadyTime) (omega (arith, t)) (omega (arith, t)) in
+      let s : r .clock .currentSlot % slots ≡ r .clock .currentSlot = mod-eq-of-lt current in
+      λ i. record { referenceTime = z i; slotReadyTime = y i; currentSlot = s i }
+
+  lock-same : validLock (r .lock) ≡ r .lock
+  unfolding validLock
+  lock-same =
+      let k : min 100 (r .lock .misses) ≡ r .lock .misses = omega (arith, b .misses) in
+      λ i. record { timingError = r .lock .timingError; misses = k i }
+
+  bounded-same : valid r ≡ r
+  unfolding valid withClock withLock
+  bounded-same = rw (clock-same, lock-same)
+
+pub process-bounded : (r : Receiver) (x : ComplexSample) (n k : ℕ) → n ≤ k → k < counters → Bounded r n → r .clock .currentSlot < slots
+    → Bounded (processSample r x (pos k)) (suc k)
+unfolding processSample R.arrive R.ready R.skipped R.closes
+process-bounded r x n k h few b current =
+    let v = valid-heard r x (bounded-same r n b (omega arith) current) in
+    let t = R.tdiff (R.listen r x) (pos k) in
+    rw v (close-bounded _ (R.skipIf (R.far t) t (R.listen r x)) k refl few (skip-bounded _ t r x k few (bounded-more r n k h b)))
+
+record InRange (r : Receiver) (k : ℕ) : Type 0 where
+  bounded : Bounded r k
+  current : r .clock .currentSlot < slots
+
+zeros-bounded : (j : ℕ) (r : Receiver) (n k : ℕ) → n + j ≤ k → k < counters → Bounded r n → r .clock .currentSlot < slots → InRange (feedZeros j r (pos k)) k
 unfolding feedZeros
-zeros-bounded zero r n k h few b = bounded-more r n k (omega arith) b
-zeros-bounded (suc j) r n k h few b =
-    rw before (zeros-bounded j (processSample r silence (pos (k - suc j))) (suc (k - suc j)) k (omega arith) few (process-bounded r silence n (k - suc j) (omega arith) (omega arith) b))
+zeros-bounded zero r n k h few b current = record { bounded = bounded-more r n k (omega arith) b; current = current }
+zeros-bounded (suc j) r n k h few b current =
+    rw before
+    (zeros-bounded j (processSample r silence (pos (k - suc j))) (suc (k - suc j)) k (omega arith) few
+    (process-bounded r silence n (k - suc j) (omega arith) (omega arith) b current) (process-step r silence (pos (k - suc j)) .current))
   where
     before : pos k -ℤ pos (suc j) ≡ pos (k - suc j)
     before = same (pos k -ℤ pos (suc j)) (pos (k - suc j)) (omega (arith, less (pos k) (pos (suc j))))
@@ -287,35 +325,13 @@ pub record Within (r : Receiver) : Type 0 where
   pub time : r .slot .time < slots
   pub views : Views (r .slot)
 
-valid-time : (most : ℕ) (z : ℤ) → up z ≤ most → dn z ≤ most → validTime most z ≡ z
-unfolding validTime
-valid-time most (pos n) h k = rw (le-leb n most h)
-valid-time most (negsuc n) h k = rw (le-leb n most (omega arith))
-
 module _ (r : Receiver) (w : Within r) where
   pub valid-count : validCount (r .next) ≡ r .next
   unfolding validCount
   valid-count = rw (w .next, ltZ-no (pos (w .count)) (pos 0) (omega arith), ltZ-no (pos counters) (pos (w .count)) (omega (arith, w .most)))
 
-  clock-same : validClock (r .clock) ≡ r .clock
-  unfolding validClock
-  clock-same =
-      let t : Timely (r .mode) (r .clock) (w .count) = w .bounded .timely in
-      let m = reach-most (r .mode) (w .count) (w .most) in
-      let z = valid-time farReference (r .clock .referenceTime) (omega (arith, t, m)) (omega (arith, t, m)) in
-      let y = valid-time farReady (r .clock .slotReadyTime) (omega (arith, t)) (omega (arith, t)) in
-      let s : r .clock .currentSlot % slots ≡ r .clock .currentSlot = mod-eq-of-lt (w .current) in
-      λ i. record { referenceTime = z i; slotReadyTime = y i; currentSlot = s i }
-
-  lock-same : validLock (r .lock) ≡ r .lock
-  unfolding validLock
-  lock-same =
-      let k : min 100 (r .lock .misses) ≡ r .lock .misses = omega (arith, w .bounded .misses) in
-      λ i. record { timingError = r .lock .timingError; misses = k i }
-
   pub valid-same : valid r ≡ r
-  unfolding valid withClock withLock withNext
-  valid-same = rw (clock-same, lock-same, valid-count)
+  valid-same = bounded-same r (w .count) (w .bounded) (w .most) (w .current)
 
   pub slot-same : validSlot (r .slot) ≡ r .slot
   slot-same = valid-slot (r .slot) (w .time) (w .views)
@@ -351,13 +367,14 @@ missing-most n k h = rw e (omega arith)
     e = same (pos k -ℤ pos n) (pos (k - n)) (omega (arith, less (pos k) (pos n)))
 
 accept-within : (r : Receiver) (x : ComplexSample) (k : ℕ) → k < counters → (w : Within r) → w .count ≤ k → Within (accept r x (pos k))
-unfolding accept withNext
+unfolding accept withNext R.zerosBefore
 accept-within r x k few w h =
     let n : ℕ = w .count in
-    let j : ℕ = missing (pos k -ℤ r .next) in
-    let l : n + j ≤ k = rw (w .next) (missing-most n k h) in
-    let b : Bounded (processSample (feedZeros j r (pos k)) x (pos k)) (suc k) = process-bounded (feedZeros j r (pos k)) x k k (omega arith) few (zeros-bounded j r n k l few (w .bounded)) in
-    let s = accept-step r x (pos k) (w .current) in
+    let j : ℕ = R.zerosBefore r (pos k) in
+    let l : n + j ≤ k = rw (valid-count r w, w .next) (missing-most n k h) in
+    let z = zeros-bounded j r n k l few (w .bounded) (w .current) in
+    let b : Bounded (processSample (feedZeros j r (pos k)) x (pos k)) (suc k) = process-bounded (feedZeros j r (pos k)) x k k (omega arith) few (z .bounded) (z .current) in
+    let s = accept-step r x (pos k) in
     record {
       count = suc k;
       next = ap pos add-one;
@@ -380,7 +397,7 @@ unless-within (suc n) r lent o w h = w
 pub sample-within : (r : Receiver) (x : ComplexSample) (c : ℤ) → Within r → Within (sampleOutcome r x c .receiver)
 unfolding sampleOutcome sampled
 sample-within r x c w =
-    rw (valid-same r w)
+    rw (valid-count r w)
     (unless-within (sampleRefusal (r .next) x c) r [] (sampled r x c) w
     (λ e. let a : Accepted (w .count) c = accepted-at (r .next) x c (w .count) e (w .next) in rw (a .is) (accept-within r x (a .counter) (a .below) w (a .least))))
 
@@ -480,7 +497,7 @@ spare-most Dl = omega arith
 spare-most Ul = omega arith
 
 pub new-within : (m : Mode) → Within (new m)
-unfolding new R.noSlot setSlot
+unfolding new noSlot setSlot
 new-within m =
     record {
       count = 0;
@@ -499,5 +516,5 @@ reachable-within (Reachable.sampled {r} h x c) = sample-within r x c (reachable-
 reachable-within (Reachable.taken {r} h s a b) = take-within r s a b (reachable-within h)
 reachable-within (told {r} {other} h o) = follow-within r other (reachable-within h) (reachable-within o)
 
-pub reachable-valid : {r : Receiver} → Reachable r → (valid r ≡ r) × (validSlot (r .slot) ≡ r .slot)
-reachable-valid {r} h = let w : Within r = reachable-within h in (valid-same r w, slot-same r w)
+pub reachable-valid : {r : Receiver} → Reachable r → (valid r ≡ r) × (validCount (r .next) ≡ r .next) × (validSlot (r .slot) ≡ r .slot)
+reachable-valid {r} h = let w : Within r = reachable-within h in (valid-same r w, valid-count r w, slot-same r w)

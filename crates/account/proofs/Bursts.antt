@@ -15,7 +15,7 @@ use Rattle.burst_finder.proofs.Distance.{distance-take}
 use Rattle.burst_finder.proofs.Downlink.{flipped, downlink, sync-type, normal1-type, normal2-type}
 use Rattle.slotter.specs.Bursts.{blockRefusal, trainingRefusal, trainingOf, answered, refusal, normalBurst}
 use Rattle.slotter.proofs.Places.{sync-places, normal-places}
-use Rattle.demodulator.specs.Receiver.{viewOn, checked}
+use Rattle.rx_slot.specs.Views.{viewOn, checked}
 use Rattle.account.specs.Rules.{typeOf}
 use Rattle.account.specs.Account.{Built, sync, normal, Burst}
 

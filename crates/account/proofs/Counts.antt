@@ -9,8 +9,8 @@ use native.Mathlib.Omega.{arith}
 use native.Mathlib.Decide.{decLe}
 use lib.Dec.{ltb, leb}
 use borrow.Author.Tests.{ltb-true, leb-true, le-leb, lt-leb, lt-ltb, le-ltb}
-use Rattle.demodulator.specs.Receiver.{HandedSlot}
-use Rattle.demodulator.specs.Windows.{Kind, quiet, lock, slot, Window}
+use Rattle.rx_slot.specs.Slots.{HandedSlot}
+use Rattle.slot_receiver.specs.Windows.{Kind, quiet, lock, slot, Window}
 use Rattle.account.specs.Rules.{Account, start, typeOf, slotWith, slotIn, nextMisses, Turn, between, stays, locks, hands, loses}
 use Rattle.account.specs.Account as Claim
 use Rattle.account.specs.Account.{runOn, typedOr, trainedOn, heldOn, Soon, ifSlot, inside, closedIn, handedIn}

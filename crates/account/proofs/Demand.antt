@@ -11,11 +11,11 @@ use lib.Ieee.{Float}
 use borrow.Author.Tests.{ltb-true, ltb-false, leb-true, leb-false, eqb-true, eqb-false, eq-eqb}
 use Rattle.dsp_types.specs.declared.ComplexSample.{ComplexSample}
 use Rattle.burst_finder.specs.Search.{findSync}
-use Rattle.demodulator.specs.Signal.{Signal, slotTiming, windowBits}
-use Rattle.demodulator.specs.Receiver.{HandedSlot, Receiver}
-use Rattle.demodulator.specs.Windows.{slot, Window}
-use Rattle.demodulator.specs.Valid.{valid, validSlot}
-use Rattle.demodulator.specs.Calls.{Reply, refused, done, took, Outcome, unless, sampleRefusal, sampled, sampleOutcome, takeRefusal, taken, takeOutcome, followRefusal, followed, followOutcome}
+use Rattle.listener.specs.Signal.{Signal, slotTiming, windowBits}
+use Rattle.rx_slot.specs.Slots.{HandedSlot, validSlot}
+use Rattle.slot_receiver.specs.Receiver.{Receiver, validCount}
+use Rattle.slot_receiver.specs.Windows.{slot, Window}
+use Rattle.slot_receiver.specs.Calls.{Reply, refused, done, took, Outcome, unless, sampleRefusal, sampled, sampleOutcome, takeRefusal, taken, takeOutcome, followRefusal, followed, followOutcome}
 use Rattle.account.specs.CallList as CallList
 use Rattle.account.specs.CallList.{Call, sample, follow, lent, outcome, after, answers, lentAfter}
 use Rattle.account.specs.Rules.{Account, Turn, between, stays, locks, hands, loses, typeOf, slotWith, slotIn, nextMisses}
@@ -80,7 +80,7 @@ took-no h n e = let z : _≡_ {A = ℕ} 0 1 = cc in omega arith
 
 kept : (r : Receiver) (c : Call) (n : ℕ) → outcome r c .reply ≡ refused n → Unchanged r (lent c) (outcome r c)
 unfolding outcome lent sampleOutcome sampled takeOutcome taken followOutcome followed
-kept r (sample x c) n e = unless-kept (sampleRefusal (valid r .next) x c) r [] (sampled (valid r) x c) n (done-no n) e
+kept r (sample x c) n e = unless-kept (sampleRefusal (validCount (r .next)) x c) r [] (sampled r x c) n (done-no n) e
 kept r (CallList.take s a b) n e = unless-kept (takeRefusal s a b (r .waits)) r (s ∷ a ∷ b ∷ []) (taken r (validSlot (r .slot))) n (took-no (validSlot (r .slot)) n) e
 kept r (follow other) n e = unless-kept (followRefusal (r .mode)) r [] (followed r other) n (done-no n) e
 
@@ -92,7 +92,7 @@ unless-fills (suc k) r l o e = refl
 
 call-fills : (r : Receiver) (c : Call) → outcome r c .lent ≡ filledBy (outcome r c .reply) (lent c)
 unfolding outcome lent sampleOutcome sampled takeOutcome taken followOutcome followed filledBy
-call-fills r (sample x c) = unless-fills (sampleRefusal (valid r .next) x c) r [] (sampled (valid r) x c) refl
+call-fills r (sample x c) = unless-fills (sampleRefusal (validCount (r .next)) x c) r [] (sampled r x c) refl
 call-fills r (CallList.take s a b) = unless-fills (takeRefusal s a b (r .waits)) r (s ∷ a ∷ b ∷ []) (taken r (validSlot (r .slot))) refl
 call-fills r (follow other) = unless-fills (followRefusal (r .mode)) r [] (followed r other) refl
 

@@ -13,7 +13,7 @@ use Rattle.timing.proofs.Window.{estimate-in-turn}
 use Rattle.slot_bits.proofs.Laws.{full-window}
 use Rattle.burst_finder.specs.Search.{findSync, Holds}
 use Rattle.burst_finder.proofs.Lock as Lock
-use Rattle.demodulator.specs.Signal.{Signal, timingOf, bitsOf, slotTiming, windowBits}
+use Rattle.listener.specs.Signal.{Signal, timingOf, bitsOf, slotTiming, windowBits}
 use Rattle.account.specs.Rules.{typeOf}
 use Rattle.account.specs.Account.{Burst}
 use Rattle.account.proofs.Bursts.{burst-type}

@@ -3,7 +3,7 @@
 use mathlib.Core.Path.{_≡_, refl, ap, sym, _∙_}
 use mathlib.Core.Bool.{Bool, true, false, true≢false, _||_}
 use mathlib.Core.Logic.{_⊎_, inl, inr}
-use mathlib.Core.List.{List, [], _∷_, _++_, List·Memᴰ, List·Memᴰ·not-nil, List·Memᴰ·append-cases, List·Memᴰ·eq-of-singleton}
+use mathlib.Core.List.{List, [], _∷_, _++_, List·Memᴰ, List·Memᴰ·not-nil, List·Memᴰ·append-cases, List·Memᴰ·eq-of-singleton, append-nil, append-assoc}
 use Prim.Native.Nat.{ℕ, zero, suc, _<_}
 use native.Mathlib.Nat.{mod-lt}
 use native.Mathlib.Omega.{arith}
@@ -13,16 +13,16 @@ use Rattle.dsp_types.specs.declared.ComplexSample.{ComplexSample}
 use Rattle.dsp_types.specs.Samples.{silence}
 use Rattle.dsp_types.specs.Times.{slots}
 use Rattle.burst_finder.specs.declared.SlotType.the-variants as SlotType
-use Rattle.demodulator.specs.Receiver as R
-use Rattle.demodulator.specs.declared.Mode.{Mode}
-use Rattle.demodulator.specs.declared.Mode.the-variants.{Idle, DlUnsynchronized, Dl, Ul}
-use Rattle.demodulator.specs.declared.feed.Stop.{Stop}
-use Rattle.demodulator.specs.declared.feed.Stop.the-variants as Stop
-use Rattle.demodulator.specs.Receiver.{HandedSlot, Receiver, withMode, withClock, withLock, withWaits, withSlot, withNext, withSignal, closeWindow, processSample, feedZeros, missing, accept}
-use Rattle.demodulator.specs.Windows.{slot, Window, searchKind, kindOf, windowIf, windowOf, zerosWindows, acceptWindows, isSlot, handsOver}
-use Rattle.demodulator.specs.Valid.{valid, validClock, validSlot}
-use Rattle.demodulator.specs.Calls.{took, Outcome, unless, sampleRefusal, sampled, sampleOutcome, takeRefusal, taken, takeOutcome}
-use Rattle.demodulator.specs.Feed.{Block, fedOne, fedBy, feedOf}
+use Rattle.slot_receiver.specs.Receiver as R
+use Rattle.slot_receiver.specs.declared.Mode.{Mode}
+use Rattle.slot_receiver.specs.declared.Mode.the-variants.{Idle, DlUnsynchronized, Dl, Ul}
+use Rattle.receiver.specs.declared.feed.Stop.{Stop}
+use Rattle.receiver.specs.declared.feed.Stop.the-variants as Stop
+use Rattle.rx_slot.specs.Slots.{HandedSlot, withViews, validSlot}
+use Rattle.slot_receiver.specs.Receiver.{Receiver, withMode, withClock, withLock, withWaits, withSlot, withNext, withSignal, closeWindow, validCount, validClock, valid, processSample, feedZeros, accept}
+use Rattle.slot_receiver.specs.Windows.{slot, Window, searchKind, kindOf, windowIf, windowAt, windowOf, zerosWindows, acceptWindows, isSlot, handsOver}
+use Rattle.slot_receiver.specs.Calls.{took, Outcome, unless, sampleRefusal, sampled, sampleOutcome, takeRefusal, taken, takeOutcome}
+use Rattle.receiver.specs.Feed.{Block, fedOne, fedBy, feedOf}
 use Rattle.account.specs.Numbers.{Numbered}
 use Rattle.account.proofs.Simulation.{advanced, advances}
 use Rattle.account.proofs.Views.{Views, none-valid, window-valid, valid-number}
@@ -100,7 +100,7 @@ same-slot : {g h : HandedSlot} → slot g ≡ slot h → g ≡ h
 same-slot e = cc
 
 search-read : (b : Bool) (place : ℕ) (r : Receiver) → r .clock .currentSlot < slots → Read DlUnsynchronized r (R.searchWindow b place r)
-unfolding kindOf R.searchWindow R.found R.notFoundYet R.withViews R.emptied R.setSlot withMode withClock withLock withSlot
+unfolding kindOf R.searchWindow R.found R.notFoundYet withViews R.emptied R.setSlot withMode withClock withLock withSlot
 search-read true place r few =
     record {
       current = slot-below (negsuc 0);
@@ -179,45 +179,42 @@ unfolding R.closeIf windowIf
 closes-if true r c few = closes r few c
 closes-if false r c few = still r r few refl
 
-arrives : (b : Bool) (t : ℤ) (r : Receiver) (x : ComplexSample) → r .clock .currentSlot < slots → Next r (R.skipIf b t (R.listen r x))
-unfolding R.skipIf R.listen withClock withSignal R.addSlots R.setSlot
-arrives true t r x few = record { current = slot-below _; slot = refl }
-arrives false t r x few = record { current = few; slot = refl }
+-- ... up to the close of a window: the stored number of the current slot is read as one in range
+readies : (r : Receiver) (c : ℤ) → Next r (R.ready r c)
+unfolding R.ready R.skipped R.skipIf valid validClock withClock withLock R.addSlots R.setSlot
+readies r c = go (R.far (R.tdiff (valid r) c)) (R.tdiff (valid r) c)
+  where
+    go : (b : Bool) (t : ℤ) → Next r (R.skipIf b t (valid r))
+    go true t = record { current = slot-below _; slot = refl }
+    go false t = record { current = mod-lt (r .clock .currentSlot) (omega arith); slot = refl }
 
 -- windows closed after the slot stayed
 from : {r s t : Receiver} {ws : List Window} → s .slot ≡ r .slot → Step s t ws → Step r t ws
 from e p = record { current = p .current; windows = p .windows; handed = p .handed; time = λ h. p .time (rw e h); views = λ v. p .views (rw e v) }
 
-module _ (r : Receiver) (x : ComplexSample) (c : ℤ) (few : r .clock .currentSlot < slots) where
-  pub process-step : Step r (processSample r x c) (windowOf r x c)
-  unfolding processSample windowOf R.arrived
-  process-step =
-      let n : Next r (R.arrived r x c) = arrives (R.far (R.tdiff r c)) (R.tdiff r c) r x few in
-      from {r = r} {s = R.arrived r x c} (n .slot) (closes-if (R.closes (R.arrived r x c) c) (R.arrived r x c) c (n .current))
+pub process-step : (r : Receiver) (x : ComplexSample) (c : ℤ) → Step r (processSample r x c) (windowOf r x c)
+unfolding processSample R.arrive windowOf windowAt R.listen withSignal
+process-step r x c =
+    let l : Receiver = R.listen r x in
+    let n : Next l (R.ready l c) = readies l c in
+    from {r = r} {s = R.ready l c} (n .slot) (closes-if (R.closes (R.ready l c) c) (R.ready l c) c (n .current))
 
-zeros-step : (k : ℕ) (r : Receiver) (c : ℤ) → r .clock .currentSlot < slots → Step r (feedZeros k r c) (zerosWindows k r c)
+-- a sample behind zeros
+zeros-step : (k : ℕ) (r : Receiver) (x : ComplexSample) (c : ℤ) → Step r (processSample (feedZeros k r c) x c) (windowOf (feedZeros k r c) x c ++ zerosWindows k r c)
 unfolding feedZeros zerosWindows
-zeros-step zero r c few = still r r few refl
-zeros-step (suc k) r c few =
-    let p : Step r (processSample r silence (c -ℤ pos (suc k))) (windowOf r silence (c -ℤ pos (suc k))) = process-step r silence (c -ℤ pos (suc k)) few in
-    both p (zeros-step k (processSample r silence (c -ℤ pos (suc k))) c (p .current))
+zeros-step zero r x c = rw (append-nil (windowOf r x c)) (process-step r x c)
+zeros-step (suc k) r x c =
+    let z : Receiver = processSample r silence (c -ℤ pos (suc k)) in
+    let v : List Window = windowOf r silence (c -ℤ pos (suc k)) in
+    rw (← append-assoc (windowOf (feedZeros k z c) x c) (zerosWindows k z c) v) (both (process-step r silence (c -ℤ pos (suc k))) (zeros-step k z x c))
 
-pub accept-step : (r : Receiver) (x : ComplexSample) (c : ℤ) → r .clock .currentSlot < slots → Step r (accept r x c) (acceptWindows r x c)
+pub accept-step : (r : Receiver) (x : ComplexSample) (c : ℤ) → Step r (accept r x c) (acceptWindows r x c)
 unfolding accept acceptWindows withNext
-accept-step r x c few =
-    let k : ℕ = missing (c -ℤ r .next) in
-    let p : Step r (feedZeros k r c) (zerosWindows k r c) = zeros-step k r c few in
-    let q = both p (process-step (feedZeros k r c) x c (p .current)) in
+accept-step r x c =
+    let q = zeros-step (R.zerosBefore r c) r x c in
     record { current = q .current; windows = q .windows; handed = q .handed; time = q .time; views = q .views }
 
 -- ════ the theorem: a sample reads the stored number of the current slot as one in range, a take that of the slot
-
-valid-current : (r : Receiver) → valid r .clock .currentSlot < slots
-unfolding valid validClock withClock withLock withNext
-valid-current r = mod-lt (r .clock .currentSlot) (omega arith)
-
-valid-step : (r : Receiver) (x : ComplexSample) (c : ℤ) → Step (valid r) (accept (valid r) x c) (acceptWindows (valid r) x c)
-valid-step r x c = accept-step (valid r) x c (valid-current r)
 
 take-numbered : (n : ℕ) (r : Receiver) (lent : List (List ℕ)) (h : HandedSlot) → unless n r lent (taken r (validSlot (r .slot))) .reply ≡ took h → h .time < slots
 unfolding unless taken
@@ -225,21 +222,21 @@ take-numbered zero r lent h e = let f : validSlot (r .slot) ≡ h = cc in number
 take-numbered (suc n) r lent h e = absurd (let z : _≡_ {A = ℕ} 0 1 = cc in omega arith)
 
 sample-numbered : (n : ℕ) (r : Receiver) (x : ComplexSample) (c : ℤ) (w : Window) (h : HandedSlot)
-    → List·Memᴰ w (unless n r [] (sampled (valid r) x c) .windows) → w .kind ≡ slot h → h .time < slots
+    → List·Memᴰ w (unless n r [] (sampled r x c) .windows) → w .kind ≡ slot h → h .time < slots
 unfolding unless sampled
-sample-numbered zero r x c w h m e = valid-step r x c .windows w h m e
+sample-numbered zero r x c w h m e = accept-step r x c .windows w h m e
 sample-numbered (suc n) r x c w h m e = absurd (List·Memᴰ·not-nil m)
 
 -- a block: one sample by its refusal, and what the others come to
 fed-numbered : (n : ℕ) (r : Receiver) (x : ComplexSample) (c : ℤ) (others : Block) → (others .stop ≡ Stop.Slot → others .receiver .slot .time < slots)
-    → (o : Outcome) → unless n r [] (sampled (valid r) x c) ≡ o → fedBy (o .reply) r (fedOne (handsOver (o .windows)) (o .receiver) others) .stop ≡ Stop.Slot
+    → (o : Outcome) → unless n r [] (sampled r x c) ≡ o → fedBy (o .reply) r (fedOne (handsOver (o .windows)) (o .receiver) others) .stop ≡ Stop.Slot
     → fedBy (o .reply) r (fedOne (handsOver (o .windows)) (o .receiver) others) .receiver .slot .time < slots
 unfolding unless sampled fedBy fedOne
-fed-numbered zero r x c others h o p = rw (← p) (go (handsOver (acceptWindows (valid r) x c)) refl)
+fed-numbered zero r x c others h o p = rw (← p) (go (handsOver (acceptWindows r x c)) refl)
   where
-    go : (b : Bool) → handsOver (acceptWindows (valid r) x c) ≡ b → fedOne b (accept (valid r) x c) others .stop ≡ Stop.Slot
-        → fedOne b (accept (valid r) x c) others .receiver .slot .time < slots
-    go true f e = valid-step r x c .handed f
+    go : (b : Bool) → handsOver (acceptWindows r x c) ≡ b → fedOne b (accept r x c) others .stop ≡ Stop.Slot
+        → fedOne b (accept r x c) others .receiver .slot .time < slots
+    go true f e = accept-step r x c .handed f
     go false f e = h e
 fed-numbered (suc n) r x c others h o p = rw (← p) (λ e. absurd (let z : _≡_ {A = ℕ} 0 1 = cc in omega arith))
 
@@ -248,13 +245,13 @@ unfolding feedOf sampleOutcome
 feed-numbered [] r c e = absurd (let z : _≡_ {A = ℕ} 0 1 = cc in omega arith)
 feed-numbered (x ∷ xs) r c e =
     let o : Outcome = sampleOutcome r x c in
-    fed-numbered (sampleRefusal (valid r .next) x c) r x c (feedOf (o .receiver) xs (c +ℤ pos 1)) (feed-numbered xs (o .receiver) (c +ℤ pos 1)) o refl e
+    fed-numbered (sampleRefusal (validCount (r .next)) x c) r x c (feedOf (o .receiver) xs (c +ℤ pos 1)) (feed-numbered xs (o .receiver) (c +ℤ pos 1)) o refl e
 
 pub numbered : (r : Receiver) → Numbered r
 unfolding takeOutcome sampleOutcome
 numbered r =
     record {
       take = λ slot subslot1 subslot2 h e. take-numbered (takeRefusal slot subslot1 subslot2 (r .waits)) r (slot ∷ subslot1 ∷ subslot2 ∷ []) h e;
-      sample = λ x c w h m e. sample-numbered (sampleRefusal (valid r .next) x c) r x c w h m e;
+      sample = λ x c w h m e. sample-numbered (sampleRefusal (validCount (r .next)) x c) r x c w h m e;
       feed = λ xs c e. feed-numbered xs r c e;
     }

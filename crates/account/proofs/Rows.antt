@@ -5,10 +5,11 @@ use Prim.Native.Nat.{ℕ, zero, suc, _+_, _*_, _≤_, _<_}
 use native.Mathlib.Omega.{arith}
 use lib.ListN.{length, getD, take, drop, set, replicate, length-append, drop-of-length-le}
 use lib.Seq.{take-at, drop-append-add, drop-drop}
-use Rattle.demodulator.specs.declared.RxBurst.{RxBurst}
-use Rattle.demodulator.specs.declared.RxSlot.{RxSlot}
-use Rattle.demodulator.specs.Receiver.{HandedSlot}
-use Rattle.demodulator.specs.Calls.{Reply, refused, done, took, inNumbers, padded}
+use Rattle.rx_slot.specs.declared.RxBurst.{RxBurst}
+use Rattle.rx_slot.specs.declared.RxSlot.{RxSlot}
+use Rattle.rx_slot.specs.Slots.{HandedSlot}
+use Rattle.slot_receiver.specs.Calls.{Reply, refused, done, took, inNumbers}
+use Rattle.rx_slot.specs.Views.{padded}
 use Rattle.account.specs.Runs.{rowLength, viewRow, rowOf, rows, bytesOf, bytesOfAll}
 
 -- ---- bits with zeros behind them

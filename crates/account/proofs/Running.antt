@@ -10,11 +10,12 @@ use lib.IntN.{ℤ, pos}
 use lib.Ieee.{Float, nan}
 use borrow.Author.Tests.{eq-eqb, ne-eqb}
 use Rattle.dsp_types.specs.declared.ComplexSample.{ComplexSample}
-use Rattle.demodulator.specs.declared.RxSlot.{RxSlot}
-use Rattle.demodulator.specs.declared.Mode.the-variants.{DlUnsynchronized}
-use Rattle.demodulator.specs.Receiver.{HandedSlot, Receiver, new}
-use Rattle.demodulator.specs.Valid.{valid}
-use Rattle.demodulator.specs.Calls.{Reply, Outcome, unless, sampleRefusal, sampled, sampleOutcome, takeOutcome, followRefusal, followed, followOutcome, inNumbers, padded}
+use Rattle.rx_slot.specs.declared.RxSlot.{RxSlot}
+use Rattle.slot_receiver.specs.declared.Mode.the-variants.{DlUnsynchronized}
+use Rattle.rx_slot.specs.Slots.{HandedSlot}
+use Rattle.slot_receiver.specs.Receiver.{Receiver, new, validCount}
+use Rattle.slot_receiver.specs.Calls.{Reply, Outcome, unless, sampleRefusal, sampled, sampleOutcome, takeOutcome, followRefusal, followed, followOutcome, inNumbers}
+use Rattle.rx_slot.specs.Views.{padded}
 use Rattle.account.specs.CallList as CallList
 use Rattle.account.specs.CallList.{Call, sample, follow, outcome, after, answers, lentAfter}
 use Rattle.account.specs.Runs.{rowLength, lentBytes, callOf, callsOf, fewest, roomIn, callsIn, rowOf, rows, bytesOf, bytesOfAll, Makes, Written, Ran}
@@ -69,7 +70,7 @@ samples r x c e f h l =
     record {
       receiver = f;
       tells = h ∙ ap (λ (a : Reply HandedSlot). rowOf (inNumbers a)) e;
-      lends = l ∙ none-lent ∙ ap bytesOf (sym (unless-none (sampleRefusal (valid r .next) x c) r (sampled (valid r) x c) refl));
+      lends = l ∙ none-lent ∙ ap bytesOf (sym (unless-none (sampleRefusal (validCount (r .next)) x c) r (sampled r x c) refl));
     }
 
 pub follows : (r other : Receiver) {v : Receiver} {told lent : List ℕ} {answer : Reply HandedSlot}

@@ -19,12 +19,14 @@ use Rattle.dsp_types.specs.Times.{slots, slotOf}
 use Rattle.timing.specs.Tracking.{late, early, loweredOf, settledOf}
 use Rattle.burst_finder.specs.declared.SlotType.the-variants as SlotType
 use Rattle.burst_finder.specs.Search.{findSync}
-use Rattle.demodulator.specs.Signal.{Signal, hear, slotTiming, windowBits}
-use Rattle.demodulator.specs.Receiver as R
-use Rattle.demodulator.specs.declared.Mode.{Mode}
-use Rattle.demodulator.specs.declared.Mode.the-variants.{DlUnsynchronized, Dl}
-use Rattle.demodulator.specs.Receiver.{Clock, Lock, HandedSlot, Receiver, withViews, withMode, withClock, withLock, withWaits, withSlot, withSignal, noView, checked, far, slotsToSkip, listen, closeWindow, processSample, setSlot, addSlots}
-use Rattle.demodulator.specs.Windows.{Kind, quiet, lock, slot, Window, kindOf, searchKind, windowOf, windowIf}
+use Rattle.listener.specs.Signal.{Signal, hear, slotTiming, windowBits}
+use Rattle.slot_receiver.specs.Receiver as R
+use Rattle.slot_receiver.specs.declared.Mode.{Mode}
+use Rattle.slot_receiver.specs.declared.Mode.the-variants.{DlUnsynchronized, Dl}
+use Rattle.slot_receiver.specs.Receiver.{Clock, Lock, Receiver, withMode, withClock, withLock, withWaits, withSlot, withSignal, far, slotsToSkip, listen, closeWindow, valid, processSample, setSlot, addSlots}
+use Rattle.rx_slot.specs.Slots.{HandedSlot, withViews}
+use Rattle.rx_slot.specs.Views.{noView, checked}
+use Rattle.slot_receiver.specs.Windows.{Kind, quiet, lock, slot, Window, kindOf, searchKind, windowAt, windowOf, windowIf}
 use Rattle.account.specs.Rules.{Account, typeOf, slotWith, slotIn, nextMisses, nextNumber}
 use Rattle.account.specs.Tracked.{Tracked, gapOf, slotGap, errorAfter, searchTurn, slotTurn, windowTurn, turnIf, turn}
 use Rattle.account.specs.Account.{Waiting, nothing, waits, changed}
@@ -135,24 +137,34 @@ pub record Stepped (r r′ : Receiver) (w : List Window) (n : ℕ) (s : Signal) 
   pub windows : w ++ t .account .windows ≡ t′ .account .windows
   pub waiting : (v : Waiting) → Waits (r .waits) (r .slot) v → Waits (r′ .waits) (r′ .slot) (over w v)
 
--- ---- `processSample` in its three ways
-module _ (r : Receiver) (x : ComplexSample) (n : ℕ) where
+-- ---- `processSample` in its three ways, of a receiver that is read as it is
+
+pub valid-heard : (r : Receiver) (x : ComplexSample) → valid r ≡ r → valid (listen r x) ≡ listen r x
+unfolding valid listen withSignal withClock withLock
+valid-heard r x v = ap (λ (q : Receiver). withSignal q (hear (r .signal) x)) v
+
+module _ (r : Receiver) (x : ComplexSample) (n : ℕ) (v : valid r ≡ r) where
+  -- up to the close of a window
+  unskipped : far (pos n -ℤ pos 16 -ℤ r .clock .slotReadyTime) ≡ false → R.ready (listen r x) (pos n) ≡ listen r x
+  unfolding R.ready R.skipped R.tdiff R.skipIf listen withSignal
+  unskipped e = rw (valid-heard r x v, e)
+
   passes : far (pos n -ℤ pos 16 -ℤ r .clock .slotReadyTime) ≡ false → eqZ (pos n -ℤ pos 16) (r .clock .slotReadyTime) ≡ false
       → (processSample r x (pos n) ≡ listen r x) × (windowOf r x (pos n) ≡ [])
-  unfolding processSample windowOf windowIf R.arrived R.tdiff R.skipIf R.closes R.closeIf listen withSignal
-  passes e f = (rw (e, f), rw (e, f))
+  unfolding processSample R.arrive R.closes R.closeIf windowOf windowAt windowIf listen withSignal
+  passes e f = (rw (unskipped e, f), rw (unskipped e, f))
 
   shuts : far (pos n -ℤ pos 16 -ℤ r .clock .slotReadyTime) ≡ false → eqZ (pos n -ℤ pos 16) (r .clock .slotReadyTime) ≡ true
       → (processSample r x (pos n) ≡ closeWindow (listen r x))
       × (windowOf r x (pos n) ≡ record { counter = n; kind = kindOf (r .mode) (closeWindow (listen r x)) } ∷ [])
-  unfolding processSample windowOf windowIf R.arrived R.tdiff R.skipIf R.closes R.closeIf listen withSignal
-  shuts e f = (rw (e, f), rw (e, f))
+  unfolding processSample R.arrive R.closes R.closeIf windowOf windowAt windowIf listen withSignal
+  shuts e f = (rw (unskipped e, f), rw (unskipped e, f))
 
   skips : far (pos n -ℤ pos 16 -ℤ r .clock .slotReadyTime) ≡ true → slotsToSkip (pos n -ℤ pos 16 -ℤ r .clock .slotReadyTime) ≡ pos 1
       → eqZ (pos n -ℤ pos 16) (addSlots (r .mode) (r .clock) (pos 1) .slotReadyTime) ≡ false
       → (processSample r x (pos n) ≡ withClock (listen r x) (addSlots (r .mode) (r .clock) (pos 1))) × (windowOf r x (pos n) ≡ [])
-  unfolding processSample windowOf windowIf R.arrived R.tdiff R.skipIf R.closes R.closeIf listen withSignal withClock
-  skips e s f = (rw (e, s, f), rw (e, s, f))
+  unfolding processSample R.arrive R.ready R.skipped R.tdiff R.skipIf R.closes R.closeIf windowOf windowAt windowIf listen withSignal withClock
+  skips e s f = (rw (valid-heard r x v, e, s, f), rw (valid-heard r x v, e, s, f))
 
 -- ---- a locked receiver's slot timing: the two tests move the reference time by at most one, and the next slot with it. No float is looked at
 unfoldable pub shift : (late early : Bool) → ℤ → ℤ
@@ -300,7 +312,7 @@ to-next m c k e f h =
     let w : slotOf (pos (c .currentSlot) +ℤ pos 1) ≡ suc k = rw f (next-slot k h) in
     rw (e, w)
 
-module _ (r : Receiver) (x : ComplexSample) (n : ℕ) (t : Tracked) where
+module _ (r : Receiver) (x : ComplexSample) (n : ℕ) (t : Tracked) (v : valid r ≡ r) where
   abbrev s′ : Signal
   s′ = hear (r .signal) x
 
@@ -312,7 +324,7 @@ module _ (r : Receiver) (x : ComplexSample) (n : ℕ) (t : Tracked) where
   unfolding listen withSignal over
   search-passes s e =
       let ne : n ≡ t .account .due → ⊥ = eqb-false n (t .account .due) e in
-      let p = passes r x n (near n (r .clock .slotReadyTime) (omega (arith, s)) (omega (arith, s))) (closes-no n (r .clock .slotReadyTime) (λ h. ne (omega (arith, s)))) in
+      let p = passes r x n v (near n (r .clock .slotReadyTime) (omega (arith, s)) (omega (arith, s))) (closes-no n (r .clock .slotReadyTime) (λ h. ne (omega (arith, s)))) in
       assemble (p .0) (p .1) (turn-no t n s′ e)
       (record {
         timed = searching (record { mode = s .mode; unlocked = s .unlocked; above-zero = s .above-zero; due = s .due; least = omega (arith, s, ne); most = omega (arith, s); begun = s .begun });
@@ -325,7 +337,7 @@ module _ (r : Receiver) (x : ComplexSample) (n : ℕ) (t : Tracked) where
   unfolding listen withSignal over
   steady-passes l s e =
       let ne : n ≡ t .account .due → ⊥ = eqb-false n (t .account .due) e in
-      let p = passes r x n (near n (r .clock .slotReadyTime) (omega (arith, s)) (omega (arith, s))) (closes-no n (r .clock .slotReadyTime) (λ h. ne (omega (arith, s)))) in
+      let p = passes r x n v (near n (r .clock .slotReadyTime) (omega (arith, s)) (omega (arith, s))) (closes-no n (r .clock .slotReadyTime) (λ h. ne (omega (arith, s)))) in
       assemble (p .0) (p .1) (turn-no t n s′ e)
       (record {
         timed = steady l (record { current = s .current; above-zero = s .above-zero; due = s .due; reference = s .reference; least = omega (arith, s, ne); most = omega (arith, s); slow = s .slow; begun = s .begun });
@@ -340,7 +352,7 @@ module _ (r : Receiver) (x : ComplexSample) (n : ℕ) (t : Tracked) where
   search-stays s e f =
       let eq : n ≡ t .account .due = eqb-true n (t .account .due) e in
       let z : ℤ = r .clock .slotReadyTime in
-      let q = shuts r x n (near n z (omega (arith, s)) (omega (arith, s))) (closes-yes n z (omega (arith, s))) in
+      let q = shuts r x n v (near n z (omega (arith, s)) (omega (arith, s))) (closes-yes n z (omega (arith, s))) in
       let c = close-stays (listen r x) (s .mode) f in
       let k = kind-quiet (r .mode) (closeWindow (listen r x)) (stayed (listen r x)) (s .mode) c (s .mode) in
       let a : dn (z +ℤ pos 400) ≡ 0 = above-zero (z +ℤ pos 400) (omega (arith, sum z (pos 400), s)) in
@@ -358,7 +370,7 @@ module _ (r : Receiver) (x : ComplexSample) (n : ℕ) (t : Tracked) where
   search-locks s e f =
       let eq : n ≡ t .account .due = eqb-true n (t .account .due) e in
       let z : ℤ = r .clock .slotReadyTime in
-      let q = shuts r x n (near n z (omega (arith, s)) (omega (arith, s))) (closes-yes n z (omega (arith, s))) in
+      let q = shuts r x n v (near n z (omega (arith, s)) (omega (arith, s))) (closes-yes n z (omega (arith, s))) in
       let c = close-locks (listen r x) (s .mode) f in
       let r′ : Receiver = found (listen r x) in
       let k = kind-lock (r .mode) (closeWindow (listen r x)) r′ (s .mode) c refl in
@@ -391,7 +403,7 @@ module _ (r : Receiver) (x : ComplexSample) (n : ℕ) (t : Tracked) where
       let k : addSlots (r .mode) (r .clock) (pos 1) ≡ c = to-next (r .mode) (r .clock) 0 (l .mode) (s .current) (omega arith) in
       let y = slot-ready (r .clock .referenceTime) 1 in
       let no-close : eqZ (pos n -ℤ pos 16) (c .slotReadyTime) ≡ false = closes-no n (c .slotReadyTime) (λ h. omega (arith, h, y, s)) in
-      let p = skips r x n (past n z (omega (arith, s))) (skips-one n z (omega (arith, s)) (omega (arith, s))) (rw k no-close) in
+      let p = skips r x n v (past n z (omega (arith, s))) (skips-one n z (omega (arith, s)) (omega (arith, s))) (rw k no-close) in
       let a : dn (c .slotReadyTime) ≡ 0 = above-zero (c .slotReadyTime) (omega (arith, y, s)) in
       assemble (p .0 ∙ ap (withClock (listen r x)) k) (p .1) (turn-no t n s′ (ne-eqb n (t .account .due) (λ h. omega (arith, h, s))))
       (record {
@@ -420,7 +432,7 @@ module _ (r : Receiver) (x : ComplexSample) (n : ℕ) (t : Tracked) where
       let k : ℕ = t .account .number in
       let type : ℕ = typeOf (windowBits s′) in
       let error : Float = errorAfter type (r .lock .timingError) (slotTiming s′) in
-      let q = shuts r x n (near n z (omega (arith, s)) (omega (arith, s))) (closes-yes n z (omega (arith, s))) in
+      let q = shuts r x n v (near n z (omega (arith, s)) (omega (arith, s))) (closes-yes n z (omega (arith, s))) in
       let c = close-keeps (listen r x) (l .mode) f in
       let r′ : Receiver = advanced (handed-over (listen r x) Dl) in
       let g = gap-span error in
@@ -459,7 +471,7 @@ module _ (r : Receiver) (x : ComplexSample) (n : ℕ) (t : Tracked) where
       let eq : n ≡ t .account .due = eqb-true n (t .account .due) e in
       let z : ℤ = r .clock .slotReadyTime in
       let type : ℕ = typeOf (windowBits s′) in
-      let q = shuts r x n (near n z (omega (arith, s)) (omega (arith, s))) (closes-yes n z (omega (arith, s))) in
+      let q = shuts r x n v (near n z (omega (arith, s)) (omega (arith, s))) (closes-yes n z (omega (arith, s))) in
       let c = close-loses (listen r x) (l .mode) f in
       let r′ : Receiver = withClock (handed-over (listen r x) DlUnsynchronized) (R.searchOn (r .clock)) in
       let me = ap (λ (y : Lock). nextMisses type (y .misses)) (l .lock) in

@@ -5,11 +5,11 @@ use Prim.Native.Nat.{ℕ, zero, suc, _+_, _*_, _≤_, _<_}
 use native.Mathlib.Omega.{arith}
 use native.Mathlib.Nat.{mod-eq-of-lt, div-eq-of-lt}
 use lib.IntN.{ℤ, pos, negsuc, negℤ, _+ℤ_, _-ℤ_}
-use Rattle.demodulator.proofs.Times.{found-half}
+use Rattle.slot_receiver.proofs.Times.{found-half}
 use Rattle.dsp_types.specs.Ints.{up, dn, eqZ}
 use Rattle.dsp_types.proofs.IntLaws.{sum, less, same, ltZ-yes, ltZ-no, eqZ-yes, eqZ-no}
 use Rattle.dsp_types.specs.Times.{slots, slotOf, divEuclid, divisor}
-use Rattle.demodulator.specs.Receiver.{far, slotsToSkip, foundTime, missing}
+use Rattle.slot_receiver.specs.Receiver.{far, slotsToSkip, foundTime, missing}
 
 -- the counter less the filter's delay, less the ready time z
 tdiff-parts : (n : ℕ) (z : ℤ) → up (pos n -ℤ pos 16 -ℤ z) + 16 + up z ≡ dn (pos n -ℤ pos 16 -ℤ z) + n + dn z

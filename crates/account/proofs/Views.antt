@@ -20,9 +20,9 @@ use Rattle.burst_finder.specs.declared.TrainingSequence.{TrainingSequence}
 use Rattle.burst_finder.specs.declared.TrainingSequence.the-variants.{NotFound, NormalTrainSeq1, NormalTrainSeq2, ExtendedTrainSeq, SyncTrainSeq}
 use Rattle.burst_finder.specs.Slots.{typeNumber, notFound, checkSlot, getBurst}
 use Rattle.burst_finder.proofs.Findings.{slot-judged, view-is, view-length}
-use Rattle.demodulator.specs.Signal.{Signal, timingOf, bitsOf}
-use Rattle.demodulator.specs.Receiver.{BurstView, HandedSlot, withViews, noView, viewOn, checked}
-use Rattle.demodulator.specs.Valid.{isFound, validView, validSlot}
+use Rattle.listener.specs.Signal.{Signal, timingOf, bitsOf}
+use Rattle.rx_slot.specs.Views.{BurstView, noView, viewOn, checked, isFound, validView}
+use Rattle.rx_slot.specs.Slots.{HandedSlot, withViews, validSlot}
 
 -- ---- bits
 

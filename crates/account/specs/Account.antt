@@ -12,12 +12,13 @@ use Rattle.dsp_types.specs.declared.ComplexSample.{ComplexSample}
 use Rattle.dsp_types.specs.Refusals.{accepted, badLength, noSlot, notFollowing, wrongLength}
 use Rattle.burst_finder.specs.Search.{hammingDistance}
 use Rattle.slotter.specs.Bursts.{syncBurst, normalBurst}
-use Rattle.demodulator.specs.declared.Mode.{Mode}
-use Rattle.demodulator.specs.declared.Mode.the-variants.{DlUnsynchronized, Dl}
-use Rattle.demodulator.specs.Signal.{windowBits}
-use Rattle.demodulator.specs.Receiver.{HandedSlot, withViews, noView}
-use Rattle.demodulator.specs.Windows.{Kind, quiet, lock, slot, Window}
-use Rattle.demodulator.specs.Calls.{Reply, refused, done, took, sampleRefusal, filled}
+use Rattle.slot_receiver.specs.declared.Mode.{Mode}
+use Rattle.slot_receiver.specs.declared.Mode.the-variants.{DlUnsynchronized, Dl}
+use Rattle.listener.specs.Signal.{windowBits}
+use Rattle.rx_slot.specs.Slots.{HandedSlot, withViews, filled}
+use Rattle.rx_slot.specs.Views.{noView}
+use Rattle.slot_receiver.specs.Windows.{Kind, quiet, lock, slot, Window}
+use Rattle.slot_receiver.specs.Calls.{Reply, refused, done, took, sampleRefusal}
 use Rattle.account.specs.CallList as CallList
 use Rattle.account.specs.CallList.{Call, sample, follow, lent, outcome, after, answers, closed, lentAfter}
 use Rattle.account.specs.Rules.{Account, start, nextMisses, Turn}

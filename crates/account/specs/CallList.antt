@@ -4,10 +4,11 @@ use Prim.Native.Nat.{ℕ}
 use mathlib.Core.List.{List, [], _∷_, _++_}
 use lib.IntN.{ℤ}
 use Rattle.dsp_types.specs.declared.ComplexSample.{ComplexSample}
-use Rattle.demodulator.specs.declared.Mode.the-variants.{DlUnsynchronized}
-use Rattle.demodulator.specs.Receiver.{HandedSlot, Receiver, new}
-use Rattle.demodulator.specs.Windows.{Window}
-use Rattle.demodulator.specs.Calls.{Reply, Outcome, sampleOutcome, takeOutcome, followOutcome}
+use Rattle.slot_receiver.specs.declared.Mode.the-variants.{DlUnsynchronized}
+use Rattle.rx_slot.specs.Slots.{HandedSlot}
+use Rattle.slot_receiver.specs.Receiver.{Receiver, new}
+use Rattle.slot_receiver.specs.Windows.{Window}
+use Rattle.slot_receiver.specs.Calls.{Reply, Outcome, sampleOutcome, takeOutcome, followOutcome}
 
 -- a sample with its counter, a take with three lent slices, an order to follow another receiver
 pub data Call : Type 0 where

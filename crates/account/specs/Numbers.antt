@@ -6,11 +6,12 @@ use Prim.Native.Nat.{ℕ, _<_}
 use lib.IntN.{ℤ}
 use Rattle.dsp_types.specs.declared.ComplexSample.{ComplexSample}
 use Rattle.dsp_types.specs.Times.{slots}
-use Rattle.demodulator.specs.declared.feed.Stop.the-variants as Stop
-use Rattle.demodulator.specs.Receiver.{HandedSlot, Receiver}
-use Rattle.demodulator.specs.Windows.{slot, Window}
-use Rattle.demodulator.specs.Calls.{took, sampleOutcome, takeOutcome}
-use Rattle.demodulator.specs.Feed.{feedOf}
+use Rattle.receiver.specs.declared.feed.Stop.the-variants as Stop
+use Rattle.rx_slot.specs.Slots.{HandedSlot}
+use Rattle.slot_receiver.specs.Receiver.{Receiver}
+use Rattle.slot_receiver.specs.Windows.{slot, Window}
+use Rattle.slot_receiver.specs.Calls.{took, sampleOutcome, takeOutcome}
+use Rattle.receiver.specs.Feed.{feedOf}
 
 -- every slot number that a call on r tells is below the number of slots, 283,115,520
 pub record Numbered (r : Receiver) : Type 0 where

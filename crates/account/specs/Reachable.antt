@@ -3,9 +3,9 @@ use Prim.Native.Nat.{ℕ}
 use mathlib.Core.List.{List}
 use lib.IntN.{ℤ}
 use Rattle.dsp_types.specs.declared.ComplexSample.{ComplexSample}
-use Rattle.demodulator.specs.declared.Mode.{Mode}
-use Rattle.demodulator.specs.Receiver.{Receiver, new}
-use Rattle.demodulator.specs.Calls.{sampleOutcome, takeOutcome, followOutcome}
+use Rattle.slot_receiver.specs.declared.Mode.{Mode}
+use Rattle.slot_receiver.specs.Receiver.{Receiver, new}
+use Rattle.slot_receiver.specs.Calls.{sampleOutcome, takeOutcome, followOutcome}
 
 -- a new receiver, and what a sample, a take or an order to follow another such receiver makes of one
 pub data Reachable : Receiver → Type 0 where

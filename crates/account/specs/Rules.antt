@@ -6,8 +6,9 @@ use Prim.Native.Nat.{ℕ, zero, suc, _+_, _%_, _≤_, _<_}
 use Rattle.dsp_types.specs.Times.{slots}
 use Rattle.burst_finder.specs.declared.SlotType.the-variants as SlotType
 use Rattle.burst_finder.specs.Search.{Holds}
-use Rattle.demodulator.specs.Receiver.{BurstView, HandedSlot, noView, checked}
-use Rattle.demodulator.specs.Windows.{quiet, lock, slot, Window}
+use Rattle.rx_slot.specs.Views.{BurstView, noView, checked}
+use Rattle.rx_slot.specs.Slots.{HandedSlot}
+use Rattle.slot_receiver.specs.Windows.{quiet, lock, slot, Window}
 
 -- 01's "account": when the next closing is due, whether it is locked or in search, the next number, misses, and the windows closed so far
 pub record Account : Type 0 where

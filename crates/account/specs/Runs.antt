@@ -8,10 +8,12 @@ use lib.ListN.{length, getD, drop, replicate}
 use lib.IntN.{ℤ, pos}
 use lib.Ieee.{Float, nan}
 use Rattle.dsp_types.specs.declared.ComplexSample.{ComplexSample}
-use Rattle.demodulator.specs.declared.RxBurst.{RxBurst}
-use Rattle.demodulator.specs.declared.RxSlot.{RxSlot}
-use Rattle.demodulator.specs.Receiver.{HandedSlot, Receiver}
-use Rattle.demodulator.specs.Calls.{Reply, refused, done, took, inNumbers, padded}
+use Rattle.rx_slot.specs.declared.RxBurst.{RxBurst}
+use Rattle.rx_slot.specs.declared.RxSlot.{RxSlot}
+use Rattle.rx_slot.specs.Slots.{HandedSlot}
+use Rattle.slot_receiver.specs.Receiver.{Receiver}
+use Rattle.slot_receiver.specs.Calls.{Reply, refused, done, took, inNumbers}
+use Rattle.rx_slot.specs.Views.{padded}
 use Rattle.account.specs.CallList.{Call, sample, take, follow, outcome, after, answers, lentAfter}
 use Rattle.account.specs.Account.{Counted, expectedAll, expectedLent, Throughout}
 

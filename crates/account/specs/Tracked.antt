@@ -10,7 +10,7 @@ use Rattle.dsp_types.specs.declared.ComplexSample.{ComplexSample}
 use Rattle.dsp_types.specs.Samples.{zeroF}
 use Rattle.timing.specs.Tracking.{averagedOf, late, early, loweredOf, settledOf}
 use Rattle.burst_finder.specs.Search.{findSync}
-use Rattle.demodulator.specs.Signal.{Signal, quiet, hear, slotTiming, windowBits}
+use Rattle.listener.specs.Signal.{Signal, quiet, hear, slotTiming, windowBits}
 use Rattle.account.specs.Rules.{Account, start, typeOf, nextMisses, searchOn, locked, handed}
 
 -- the samples so far, as the receiver keeps them. The bits of a window are `windowBits` of it: "what the sections above make of the

@@ -5,9 +5,9 @@ mod write;
 
 use call::one_call;
 use demodulator::Demodulator;
-use demodulator::Mode;
 use dsp_types::ComplexSample;
 use dsp_types::least;
+use slot_receiver::Mode;
 use write::ROW;
 use write::write_bytes;
 use write::write_numbers;

@@ -1,13 +1,14 @@
 // What a call answers, and the bytes lent to it, in rows of numbers and of bytes.
-use demodulator::Answer;
-use demodulator::RxSlot;
-use demodulator::TakeAnswer;
 use dsp_types::least;
+use rx_slot::RxSlot;
+use slot_receiver::Answer;
+use slot_receiver::TakeAnswer;
 ghost use mathlib.Core.Path.{_≡_};
 ghost use mathlib.Core.List.{_++_};
 ghost use Prim.Native.Nat.{_+_, _≤_};
 ghost use lib.ListN.{length, take, drop};
-ghost use Rattle.demodulator.specs.Calls.{took, padded, replyOf, takeReplyOf, inNumbers};
+ghost use Rattle.slot_receiver.specs.Calls.{took, replyOf, takeReplyOf, inNumbers};
+ghost use Rattle.rx_slot.specs.Views.{padded};
 ghost use Rattle.account.specs.Runs.{lentBytes, rowOf};
 
 // How many numbers tell an answer.

@@ -1,6 +1,6 @@
 -- `answer_row` meets its contract, case by case.
 use borrow.Author.Needs.{needs}
-use Rattle.demodulator.specs.Calls.{replyOf, inNumbers}
+use Rattle.slot_receiver.specs.Calls.{replyOf, inNumbers}
 use Rattle.account.specs.Runs.{rowOf}
 use Rattle.account.proofs.write.answer_row.Statement.{statement}
 use Rattle.account.proofs.write.answer_row.Tie as tie

@@ -5,7 +5,7 @@ use native.Mathlib.Omega.{arith}
 use native.Mathlib.Numerals.{add-one}
 use lib.ListN.{replicate}
 use borrow.Author.Needs.{needs}
-use Rattle.demodulator.specs.Calls.{padded}
+use Rattle.rx_slot.specs.Views.{padded}
 use Rattle.account.specs.Runs.{lentBytes}
 use Rattle.account.proofs.Rows.{padded-none, padded-more}
 use Rattle.account.proofs.write.sevens.Statement.{statement}

@@ -1,6 +1,6 @@
 -- `take_row` meets its contract, case by case.
 use borrow.Author.Needs.{needs}
-use Rattle.demodulator.specs.Calls.{takeReplyOf}
+use Rattle.slot_receiver.specs.Calls.{takeReplyOf}
 use Rattle.account.specs.Runs.{rowOf}
 use Rattle.account.proofs.write.take_row.Statement.{statement}
 use Rattle.account.proofs.write.take_row.Tie as tie
