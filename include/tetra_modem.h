@@ -70,7 +70,7 @@ extern "C" {
 
 /* ---- Receivers
  *
- * A receiver lives in the caller's memory, 26,536 bytes, and its calls take a pointer to it; several receivers share nothing.
+ * A receiver lives in the caller's memory, 26,528 bytes, and its calls take a pointer to it; several receivers share nothing.
  * It is made with tetra_receiver_init, fed with tetra_feed, and asked with tetra_take for each slot that is handed over.
  *
  * Counters. Each sample has a number, from 0 on. A downlink receiver numbers its slots from 1 at each lock. An uplink
@@ -114,7 +114,7 @@ struct tetra_filter {
     float im[32];
 };
 
-#define TETRA_STATE_BYTES 1960u
+#define TETRA_STATE_BYTES 1952u
 #define TETRA_PAST 2048u
 
 /* All of a receiver but its past. To be read, if at all: a caller need write none of it. The bits are those of the windows of
@@ -125,7 +125,6 @@ struct tetra_state {
     int64_t reference_time;
     int64_t slot_ready_time;
     uint32_t current_slot;
-    int64_t next_input_sample_count;
     float averaged_timing_error;
     uint32_t slots_since_last_valid_burst;
     bool demodulated_slot_available;
@@ -133,6 +132,7 @@ struct tetra_state {
     uint8_t full_bits[510];
     uint8_t subslot1_bits[510];
     uint8_t subslot2_bits[510];
+    int64_t next_input_sample_count;
     struct tetra_filter matched_filter;
     size_t past_index;
 };

@@ -34,7 +34,6 @@ pub struct State {
     reference_time: i64,
     slot_ready_time: i64,
     current_slot: u32,
-    next_input_sample_count: i64,
     averaged_timing_error: f32,
     slots_since_last_valid_burst: u32,
     pub demodulated_slot_available: bool,
@@ -42,6 +41,7 @@ pub struct State {
     pub full_bits: [u8; 510],
     pub subslot1_bits: [u8; 510],
     pub subslot2_bits: [u8; 510],
+    next_input_sample_count: i64,
     matched_filter: Filter,
     past_index: usize,
 }
@@ -54,7 +54,7 @@ pub struct Sender {
 }
 
 // As the header says.
-const _: () = assert!(size_of::<State>() == 1960 && size_of::<Sender>() == 260);
+const _: () = assert!(size_of::<State>() == 1952 && size_of::<Sender>() == 260);
 
 #[repr(C)]
 pub struct Answered {

@@ -66,14 +66,14 @@ impl Listener {
         let mut out_re = [0.0f32; PIECE];
         let mut out_im = [0.0f32; PIECE];
         let line = self.matched_filter;
-        let next_line = line.block(x, y, &mut out_re, &mut out_im);
+        let last_line = line.block(x, y, &mut out_re, &mut out_im);
         let mut sizes = [0.0f32; PIECE];
         magnitude::magnitudes(&out_re[..n], &out_im[..n], &mut sizes);
         let at = self.past_index;
         history::store(re, at, &out_re[..n]);
         history::store(im, at, &out_im[..n]);
         Listener {
-            matched_filter: next_line,
+            matched_filter: last_line,
             past_index: history::store(abs, at, &sizes[..n]),
         }
     }

@@ -24,11 +24,11 @@ const RUNS: usize = 5;
 mod library {
     /// All of a receiver but its past.
     #[derive(Clone, Copy)]
-    #[repr(C)]
+    #[repr(C, align(8))]
     pub struct State {
-        head: [u64; 6],
+        head: [u32; 9],
         pub slot_waits: bool,
-        rest: [u64; 238],
+        rest: [u8; 1915],
     }
 
     #[derive(Clone, Copy)]
