@@ -2,7 +2,7 @@
 use mathlib.Core.Path.{_≡_}
 use mathlib.Core.Bool.{Bool, false, _||_}
 use mathlib.Core.List.{List, [], _∷_}
-use Prim.Native.Nat.{ℕ}
+use Prim.Native.Nat.{ℕ, _<_}
 use lib.IntN.{ℤ}
 use lib.ListN.{take}
 use lib.Ieee.{Float}
@@ -29,3 +29,10 @@ firstOf n re im = samplesOf (take n re) (take n im)
 pub record OnlyKept (k : Clock) (misses : ℕ) (next c : ℤ) (n : ℕ) : Type 0 where
   pub follows : next ≡ c
   pub quiet : n ≡ quietSamples k misses c
+
+-- the sample x is only kept: it is not too large either
+pub record Keeps (k : Clock) (misses : ℕ) (next : ℤ) (x : ComplexSample) (c : ℤ) : Type 0 where
+  pub count : ℕ
+  pub some : 0 < count
+  pub only : OnlyKept k misses next c count
+  pub fine : (beyond (x .re) || beyond (x .im)) ≡ false

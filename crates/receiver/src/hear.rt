@@ -9,8 +9,8 @@ ghost use mathlib.Core.Path.{_≡_};
 ghost use mathlib.Core.Bool.{false};
 ghost use lib.IntN.{_-ℤ_};
 ghost use lib.Signed.{ltZ};
-ghost use Rattle.slot_receiver.specs.Receiver.{validCount, processSample, missing, accept};
-ghost use Rattle.slot_receiver.specs.Windows.{handsOver, windowOf, acceptWindows};
+ghost use Rattle.slot_receiver.specs.Receiver.{validCount, processSample, missing, feedZeros, zerosBefore, accept};
+ghost use Rattle.slot_receiver.specs.Windows.{handsOver, windowOf, zerosWindows, acceptWindows};
 ghost use Rattle.slot_receiver.specs.Bounds.{Counter};
 ghost use Rattle.receiver.specs.View.{receiverOf, Untouched};
 ghost use Rattle.receiver.specs.Hearing.{Catching, Caught, Judges};
@@ -103,6 +103,30 @@ impl State {
         }
     }
 
+    // Zeros for the samples that are missing before this counter, and whether one handed a slot over.
+    fn catch_up(
+        self,
+        re: &mut [f32; 2048],
+        im: &mut [f32; 2048],
+        abs: &mut [f32; 2048],
+        counter: SampleCount,
+    ) -> Heard
+        requires { ⌜ Counter (counter .0) × (ltZ (counter .0) (validCount (self .«next_input_sample_count» .0)) ≡ false) ⌝ }
+        ensures handed { λ r. ⌜ r .handed ≡ handsOver (zerosWindows (zerosBefore (receiverOf self (now (re .entry)) (now (im .entry)) (now (abs .entry))) (counter .0)) (receiverOf self (now (re .entry)) (now (im .entry)) (now (abs .entry))) (counter .0)) ⌝ }
+        ensures state { λ r. ⌜ receiverOf (r .state) (now (re .exit)) (now (im .exit)) (now (abs .exit)) ≡ feedZeros (zerosBefore (receiverOf self (now (re .entry)) (now (im .entry)) (now (abs .entry))) (counter .0)) (receiverOf self (now (re .entry)) (now (im .entry)) (now (abs .entry))) (counter .0) ⌝ }
+    {
+        let mut left = missing_samples(valid_count(self.next_input_sample_count), counter);
+        let mut d = self;
+        let mut handed = false;
+        while 0 < left {
+            let zeros = d.process_zeros(re, im, abs, left, counter);
+            d = zeros.state;
+            left = zeros.left;
+            handed = handed | zeros.handed;
+        }
+        Heard { state: d, handed }
+    }
+
     // A sample that is not refused, and whether it or a zero before it handed a slot over.
     fn accept(
         self,
@@ -116,22 +140,14 @@ impl State {
         ensures handed { λ r. ⌜ r .handed ≡ handsOver (acceptWindows (receiverOf self (now (re .entry)) (now (im .entry)) (now (abs .entry))) input (counter .0)) ⌝ }
         ensures state { λ r. ⌜ receiverOf (r .state) (now (re .exit)) (now (im .exit)) (now (abs .exit)) ≡ accept (receiverOf self (now (re .entry)) (now (im .entry)) (now (abs .entry))) input (counter .0) ⌝ }
     {
-        let mut left = missing_samples(valid_count(self.next_input_sample_count), counter);
+        let caught = self.catch_up(re, im, abs, counter);
+        let heard = caught.state.process_sample(re, im, abs, input, counter);
         let next = counter.plus(1);
-        let mut d = self;
-        let mut handed = false;
-        while 0 < left {
-            let zeros = d.process_zeros(re, im, abs, left, counter);
-            d = zeros.state;
-            left = zeros.left;
-            handed = handed | zeros.handed;
-        }
-        let heard = d.process_sample(re, im, abs, input, counter);
         let mut last = heard.state;
         last.next_input_sample_count = next;
         Heard {
             state: last,
-            handed: handed | heard.handed,
+            handed: caught.handed | heard.handed,
         }
     }
 

@@ -1,150 +1,48 @@
--- `State::accept` meets its contract: zeros for what is missing, part by part, then the sample.
-use mathlib.Core.Path.{_≡_, refl, ap, sym, _∙_}
+-- `State::accept` meets its contract: the zeros, then the sample.
+use mathlib.Core.Path.{_≡_, ap, sym, _∙_}
 use mathlib.Core.Bool.{Bool, _||_}
-use Prim.Native.Nat.{ℕ, _-_, _≤_, _<_, _^_}
-use native.Mathlib.Omega.{arith}
+use Prim.Native.Nat.{_^_}
 use lib.Dec.{lit≤}
-use Rattle.dsp_types.specs.Ints.{up}
-use Rattle.slot_receiver.specs.View.{receiverFrom}
-use Rattle.slot_receiver.specs.Receiver.{Receiver, withNext, validCount, processSample, feedZeros, zerosBefore, accept}
+use Rattle.slot_receiver.specs.Receiver.{Receiver, withNext, processSample, feedZeros, zerosBefore, accept}
 use Rattle.slot_receiver.specs.Windows.{handsOver, zerosWindows}
-use Rattle.receiver.specs.View.{receiverOf}
+use Rattle.slot_receiver.specs.View.{receiverFrom}
 use Rattle.slot_receiver.proofs.Signed.{plus-is, wider, within-pos, counter-37}
-use Rattle.receiver.proofs.Samples.{no-zeros, missing-below}
-use Rattle.receiver.proofs.Handing.{or-false, or-assoc, no-zeros-hand, accept-hands}
-use Rattle.slot_receiver.proofs.Doors.{valid-counter}
+use Rattle.receiver.specs.View.{receiverOf}
+use Rattle.receiver.proofs.Handing.{accept-hands}
 use borrow.Author.Needs.{needs}
 use Rattle.receiver.proofs.State.accept.Statement.{statement}
 use Rattle.receiver.proofs.State.accept.Tie as tie
 
--- the zeros left, fed from here, come to what all of them would; what was handed over so far is told
-abbrev Inv-loop : tie.InvT-loop
-Inv-loop re₀ im₀ abs₀ input counter left₀ next d₀ handed₀ re im abs left d handed =
-    (left ≤ left₀)
-    × (feedZeros left₀ (receiverOf d₀ re₀ im₀ abs₀) (counter .0) ≡ feedZeros left (receiverOf d re im abs) (counter .0))
-    × (handsOver (zerosWindows left₀ (receiverOf d₀ re₀ im₀ abs₀) (counter .0)) ≡ (handed || handsOver (zerosWindows left (receiverOf d re im abs) (counter .0))))
+abbrev receiver : tie.Start → Receiver
+receiver s = receiverOf (s .args .self) (s .args .re .now) (s .args .im .now) (s .args .abs .now)
 
-abbrev μ-loop : tie.MeasureT-loop
-μ-loop re₀ im₀ abs₀ input counter left₀ next d₀ handed₀ re im abs left d handed = left
+catch-up-requires : tie.Need-catch-up-requires
+catch-up-requires c κs = search needs
 
-abbrev start : tie.After-missing-samples Inv-loop μ-loop → tie.Start Inv-loop μ-loop
-start c = c .before .before
+process-sample-requires : tie.Need-process-sample-requires
+process-sample-requires c κs = search needs
 
-abbrev given : tie.Start Inv-loop μ-loop → Receiver
-given s = receiverOf (s .args .self) (s .args .re .now) (s .args .im .now) (s .args .abs .now)
-
-lost : (c : tie.After-missing-samples Inv-loop μ-loop) → c .missing-samples .result ≡ zerosBefore (given (start c)) (start c .args .counter .0)
-unfolding receiverOf receiverFrom zerosBefore
-lost c = rw (c .before .valid-count .ensures) at (c .missing-samples .ensures)
-
-fewer : (c : tie.After-missing-samples Inv-loop μ-loop) → c .missing-samples .result ≤ up (start c .args .counter .0)
-unfolding zerosBefore
-fewer c =
-    let s = start c in
-    omega (arith, lost c, missing-below (s .args .counter .0) (validCount (given s .next)) (valid-counter (given s .next) .low) (s .pre .0 .low))
-
-abbrev number : tie.At-loop Inv-loop μ-loop → tie.After-missing-samples Inv-loop μ-loop
-number t = t .before .before
-
-abbrev receiver : tie.At-loop Inv-loop μ-loop → Receiver
-receiver t = receiverOf (t .loop .d) (t .loop .re) (t .loop .im) (t .loop .abs)
-
-valid-count-requires : tie.Need-valid-count-requires Inv-loop μ-loop
-valid-count-requires c κs = search needs
-
-missing-samples-requires : tie.Need-missing-samples-requires Inv-loop μ-loop
-missing-samples-requires c κs =
-    let p = c .before .pre in
-    rw (c .valid-count .ensures) (valid-counter (c .before .args .self .«next_input_sample_count» .0), p .0, p .1)
-
-plus-requires : tie.Need-plus-requires Inv-loop μ-loop
+plus-requires : tie.Need-plus-requires
 plus-requires c κs = search needs
 
-loop-holds : tie.Need-loop-holds Inv-loop μ-loop
-loop-holds c = (omega arith, refl, refl)
-
-process-zeros-requires : tie.Need-process-zeros-requires Inv-loop μ-loop
-process-zeros-requires c κs =
-    let t = c .before .before .before .before in
-    let n = number t in
-    let p = start n .pre in
-    let l : t .loop .left ≤ n .missing-samples .result = t .loop .inv .0 in
-    record { counter = p .0; above-zero = omega (arith, fewer n, l) }
-
-loop-less : tie.Need-loop-less Inv-loop μ-loop
-loop-less c =
-    let z = c .before .before in
-    omega (arith, z .process-zeros .ensures .less (z .before .before .before .before .loop-test .taken))
-
-loop-again : tie.Need-loop-again Inv-loop μ-loop
-loop-again c =
-    let z = c .before .before in
-    let i = z .before .before .before .before in
-    let t = i .before in
-    let l = t .loop in
-    let s = start (number t) in
-    let e = z .process-zeros .ensures in
-    let below : z .process-zeros .result .left < l .left = e .less (i .loop-test .taken) in (
-      omega (arith, below, l .inv .0),
-      l .inv .1 ∙ e .receiver,
-      l .inv .2 ∙ ap (λ (b : Bool). l .handed || b) (e .windows) ∙ sym (or-assoc (l .handed) (z .process-zeros .result .handed) _),
-    )
-
-none-left : (c : tie.After-loop Inv-loop μ-loop) → c .before .loop .left ≤ 0
-none-left c = omega arith
-
--- after the zeros
-module _ (t : tie.At-loop Inv-loop μ-loop) (ends : t .loop .left ≤ 0) where
-  abbrev s : tie.Start Inv-loop μ-loop
-  s = start (number t)
-
-  zeroed : receiver t ≡ feedZeros (zerosBefore (given s) (s .args .counter .0)) (given s) (s .args .counter .0)
-  zeroed =
-      no-zeros (t .loop .left) (receiver t) (s .args .counter .0) ends
-      ∙ sym (t .loop .inv .1)
-      ∙ ap (λ (n : ℕ). feedZeros n (given s) (s .args .counter .0)) (lost (number t))
-
-  zeros-handed : t .loop .handed ≡ handsOver (zerosWindows (zerosBefore (given s) (s .args .counter .0)) (given s) (s .args .counter .0))
-  zeros-handed =
-      sym (or-false (t .loop .handed))
-      ∙ ap (λ (b : Bool). t .loop .handed || b) (sym (no-zeros-hand (t .loop .left) (receiver t) (s .args .counter .0) ends))
-      ∙ sym (t .loop .inv .2)
-      ∙ ap (λ (n : ℕ). handsOver (zerosWindows n (given s) (s .args .counter .0))) (lost (number t))
-
-process-sample-requires : tie.Need-process-sample-requires Inv-loop μ-loop
-process-sample-requires c κs =
-    let t = c .before .before .before .before in
-    start (number t) .pre .0
-
-returns : tie.Need-returns Inv-loop μ-loop
+returns : tie.Need-returns
 unfolding accept receiverOf receiverFrom withNext
 returns c =
-    let p = c .before .before in
-    let t = p .before .before .before .before .before in
-    let s = start (number t) in
-    let ends = none-left (p .before .before .before .before) in
-    let u = t .before in
-    let k = zerosBefore (given s) (s .args .counter .0) in
-    let r = p .process-sample .ensures in (
-      ap (λ (b : Bool). b || p .process-sample .result .handed) (zeros-handed t ends)
-          ∙ ap (λ (b : Bool). handsOver (zerosWindows k (given s) (s .args .counter .0)) || b) (rw (zeroed t ends) at (r .0))
-          ∙ sym (accept-hands (given s) (s .args .input) (s .args .counter .0)),
-      ap (λ (q : Receiver). withNext q (u .plus .result .0)) (rw (zeroed t ends) at (r .1))
-          ∙ ap (withNext (processSample (feedZeros k (given s) (s .args .counter .0)) (s .args .input) (s .args .counter .0))) (u .plus .ensures ∙ plus-is (wider (2 ^ 61) (lit≤ tt) (counter-37 (s .pre .0))) (within-pos {n = 1} (2 ^ 61) (lit≤ tt))),
+    let u = c .before .before .before in
+    let p = u .before in
+    let z = p .before .before .before .before in
+    let s = z .before .before .before .before in
+    let r = receiver s in
+    let k = s .args .counter .0 in
+    let n = zerosBefore r k in
+    let e = z .catch-up .ensures in
+    let h = p .process-sample .ensures in (
+      ap (λ (b : Bool). b || p .process-sample .result .handed) (e .0)
+          ∙ ap (λ (b : Bool). handsOver (zerosWindows n r k) || b) (rw (e .1) at (h .0))
+          ∙ sym (accept-hands r (s .args .input) k),
+      ap (λ (q : Receiver). withNext q (u .plus .result .0)) (rw (e .1) at (h .1))
+          ∙ ap (withNext (processSample (feedZeros n r k) (s .args .input) k)) (u .plus .ensures ∙ plus-is (wider (2 ^ 61) (lit≤ tt) (counter-37 (s .pre .0))) (within-pos {n = 1} (2 ^ 61) (lit≤ tt))),
     )
 
 pub accept-spec : {M : Type 1} → statement M
-accept-spec =
-    tie.close
-    (tie.spec
-    Inv-loop
-    μ-loop
-    valid-count-requires
-    missing-samples-requires
-    plus-requires
-    loop-holds
-    process-zeros-requires
-    loop-less
-    loop-again
-    process-sample-requires
-    returns)
+accept-spec = tie.close (tie.spec catch-up-requires process-sample-requires plus-requires returns)
