@@ -18,7 +18,7 @@ pub(crate) fn built(out: Output, block: &mut Block, burst: Burst) -> Output {
 // The logger's call with the first `len` of its answer bytes, of which there are enough.
 fn judge_with(kind: u32, bits: &[u8], answer: &mut [u8], len: usize) -> u32 {
     if len <= answer.len() {
-        modem::tetra_judge(kind, bits, &mut answer[0..len])
+        logger::judge(kind, bits, &mut answer[0..len])
     } else {
         3
     }

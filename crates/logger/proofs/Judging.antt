@@ -14,7 +14,7 @@ use Rattle.burst_finder.specs.declared.SlotType.{SlotType}
 use Rattle.burst_finder.specs.declared.SlotType.the-variants.{Dl, UlFull, UlSub}
 use Rattle.burst_finder.specs.Slots.{typeNumber, checkSlot}
 use Rattle.burst_finder.proofs.Findings.{slot-judged, slot-errors}
-use Rattle.modem.specs.Judge.{kindOf, windowBits, wrongWindow, judgeRefusal, answerOf, judgeAnswer}
+use Rattle.logger.specs.Judge.{kindOf, windowBits, wrongWindow, judgeRefusal, answerOf, judgeAnswer}
 
 -- ---- the kind
 pub is-dl : (kind : ℕ) → kind ≡ 0 → Dl ≡ kindOf kind

@@ -1,7 +1,7 @@
--- `judge::wrong_window` meets its contract, by the tests of the kind.
-use Rattle.modem.proofs.Judging.{above, full, half}
-use Rattle.modem.proofs.judge.wrong_window.Statement.{statement}
-use Rattle.modem.proofs.judge.wrong_window.Tie as tie
+-- `wrong_window` meets its contract, by the tests of the kind.
+use Rattle.logger.proofs.Judging.{above, full, half}
+use Rattle.logger.proofs.wrong_window.Statement.{statement}
+use Rattle.logger.proofs.wrong_window.Tie as tie
 
 returns : tie.Need-returns
 returns c = above (c .before .args .kind) (c .before .args .bits .now) (c .if1 .taken)

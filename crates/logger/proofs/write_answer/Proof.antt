@@ -1,10 +1,10 @@
--- `judge::write_answer` meets its contract: six stores into six bytes.
+-- `write_answer` meets its contract: six stores into six bytes.
 use native.Mathlib.Omega.{arith}
 use lib.ListN.{length-set}
-use Rattle.modem.proofs.Judging.{stored}
+use Rattle.logger.proofs.Judging.{stored}
 use borrow.Author.Needs.{needs}
-use Rattle.modem.proofs.judge.write_answer.Statement.{statement}
-use Rattle.modem.proofs.judge.write_answer.Tie as tie
+use Rattle.logger.proofs.write_answer.Statement.{statement}
+use Rattle.logger.proofs.write_answer.Tie as tie
 
 number-requires : tie.Need-number-requires
 number-requires c κs = search needs

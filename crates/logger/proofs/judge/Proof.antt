@@ -1,9 +1,9 @@
--- `judge::tetra_judge` meets its contract: an accepted call has its lengths, so the finding fits the six bytes; a refused one stores nothing.
+-- `judge` meets its contract: an accepted call has its lengths, so the finding fits the six bytes; a refused one stores nothing.
 use mathlib.Core.Path.{sym, _∙_}
-use Rattle.modem.proofs.Judging.{answer-six, room, written, kept}
+use Rattle.logger.proofs.Judging.{answer-six, room, written, kept}
 use borrow.Author.Needs.{needs}
-use Rattle.modem.proofs.judge.tetra_judge.Statement.{statement}
-use Rattle.modem.proofs.judge.tetra_judge.Tie as tie
+use Rattle.logger.proofs.judge.Statement.{statement}
+use Rattle.logger.proofs.judge.Tie as tie
 
 refusal-requires : tie.Need-refusal-requires
 refusal-requires c κs = search needs
@@ -43,8 +43,8 @@ returns-2 c =
     let r = c .before .refusal in
     (r .ensures, kept (a .kind) (a .bits .now) (a .answer .now) (λ e. c .if1 .left (r .ensures ∙ e)))
 
-pub tetra-judge-spec : {M : Type 1} → statement M
-tetra-judge-spec =
+pub judge-spec : {M : Type 1} → statement M
+judge-spec =
     tie.close
     (tie.spec
     refusal-requires

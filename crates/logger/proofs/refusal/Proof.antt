@@ -1,9 +1,9 @@
--- `judge::refusal` meets its contract: each test in the order of the numbers.
+-- `refusal` meets its contract: each test in the order of the numbers.
 use mathlib.Core.Path.{sym, _∙_}
-use Rattle.modem.proofs.Judging.{bad-answer, bad-window, bad-bits, bad-kind, accepts}
+use Rattle.logger.proofs.Judging.{bad-answer, bad-window, bad-bits, bad-kind, accepts}
 use borrow.Author.Needs.{needs}
-use Rattle.modem.proofs.judge.refusal.Statement.{statement}
-use Rattle.modem.proofs.judge.refusal.Tie as tie
+use Rattle.logger.proofs.refusal.Statement.{statement}
+use Rattle.logger.proofs.refusal.Tie as tie
 
 returns : tie.Need-returns
 returns c =

@@ -1,7 +1,7 @@
--- `judge::slot_type` meets its contract, number by number.
-use Rattle.modem.proofs.Judging.{is-dl, is-full, is-sub}
-use Rattle.modem.proofs.judge.slot_type.Statement.{statement}
-use Rattle.modem.proofs.judge.slot_type.Tie as tie
+-- `slot_type` meets its contract, number by number.
+use Rattle.logger.proofs.Judging.{is-dl, is-full, is-sub}
+use Rattle.logger.proofs.slot_type.Statement.{statement}
+use Rattle.logger.proofs.slot_type.Tie as tie
 
 returns : tie.Need-returns
 returns c = is-dl (c .before .args .kind) (c .match .keys1)
