@@ -8,10 +8,10 @@ use Rattle.replay.proofs.field.decode.Statement.{statement}
 use Rattle.replay.proofs.field.decode.Tie as tie
 
 abbrev Inv-loop : tie.InvT-loop
-Inv-loop line₀ i₀ i-end line i = length line ≡ length line₀
+Inv-loop line₀ from to i₀ line i = length line ≡ length line₀
 
 abbrev μ-loop : tie.MeasureT-loop
-μ-loop line₀ i₀ i-end line i = i-end - i
+μ-loop line₀ from to i₀ line i = to - i
 
 loop-holds : tie.Need-loop-holds Inv-loop μ-loop
 loop-holds c = search needs
