@@ -10,11 +10,13 @@ pub(crate) fn error() -> Text {
     Text::new().append(b"error\n")
 }
 
+// The text with a space and a number behind it.
+pub(crate) fn with_number(text: Text, number: u64) -> Text {
+    text.append(b" ").decimal(number)
+}
+
 pub(crate) fn refused(number: u32) -> Text {
-    Text::new()
-        .append(b"refused ")
-        .decimal(number as u64)
-        .append(b"\n")
+    with_number(Text::new().append(b"refused"), number as u64).append(b"\n")
 }
 
 // The text with the bit pattern of a float behind it, 8 hexadecimal digits.

@@ -1,8 +1,9 @@
 // The fields of a line, which are parted by one space, and the numbers, samples and bits that they hold.
+use crate::input::Block;
 use dsp_types::ComplexSample;
 use dsp_types::SampleCount;
 
-const LARGEST_U32: u64 = 0xffff_ffff;
+pub(crate) const LARGEST_U32: u64 = 0xffff_ffff;
 
 pub(crate) fn count(line: &[u8]) -> usize {
     let mut n: usize = 1;
@@ -100,16 +101,8 @@ pub(crate) fn number(line: &[u8], k: usize) -> u64 {
     decimal(field(line, k))
 }
 
-// The same for a number that is known to fit, else the largest that does.
-pub(crate) fn number_u32(line: &[u8], k: usize) -> u32 {
-    narrow(number(line, k))
-}
-
-pub(crate) fn is_u32(line: &[u8], k: usize) -> bool {
-    number(line, k) <= LARGEST_U32
-}
-
-fn narrow(value: u64) -> u32 {
+// A number that is known to fit, else the largest that does.
+pub(crate) fn narrow(value: u64) -> u32 {
     if value <= 0xffff_ffff {
         value as u32
     } else {
@@ -200,26 +193,13 @@ pub(crate) fn digits(line: &[u8], k: usize) -> &[u8] {
     block_text::behind(field(line, k), 1)
 }
 
+// Whether field k is `=` and digits.
 pub(crate) fn has_digits(line: &[u8], k: usize) -> bool {
     check::same(text::front(field(line, k), 1), b"=") & are_digits(digits(line, k))
 }
 
-// Turns digits of the line into their values. None of these is a space.
-fn decode(line: &mut [u8], from: usize, to: usize) {
-    for i in from..to {
-        if i < line.len() {
-            line[i] = std::num::wrapping_sub_u8(line[i], b'0');
-        }
-    }
-}
-
-// Whether field k is bits, `=` and a digit each. Its digits are their values afterwards.
-pub(crate) fn read_bits(line: &mut [u8], k: usize) -> bool {
-    let is_good = has_digits(&*line, k);
-    if is_good {
-        let from = start_of(&*line, k);
-        let to = std::num::wrapping_add_usize(from, field(&*line, k).len());
-        decode(line, from, to);
-    }
-    is_good
+// The digits' values, where the block has those of the whole line.
+pub(crate) fn bits<'a>(line: &[u8], values: &'a Block, k: usize) -> &'a [u8] {
+    let from = std::num::wrapping_add_usize(start_of(line, k), 1);
+    text::front(block_text::behind(values, from), digits(line, k).len())
 }

@@ -11,28 +11,15 @@ mod receivers;
 mod session;
 mod stateless;
 
-use input::Block;
+use demodulator::Demodulator;
+use demodulator::Mode;
 use input::Input;
 use input::next_line;
 use output::Output;
-use receivers::Receiver;
 use receivers::called;
 use receivers::leader;
+use receivers::serve;
 use session::Session;
-use session::Step;
-
-// Makes the call of the line's first bytes.
-fn step_in(session: Session, line: &mut [u8], len: usize) -> Step {
-    if len <= line.len() {
-        session.step(&mut line[0..len])
-    } else {
-        session.step(line)
-    }
-}
-
-fn step(session: Session, line: &mut Block, len: usize) -> Step {
-    step_in(session, line, len)
-}
 
 // The loop counts its turns down from a number that no run uses up: a proved loop has to end, and nothing says
 // that the input does.
@@ -43,7 +30,8 @@ fn main() {
     let mut input = Input::new();
     let mut out = Output::new();
     let mut session = Session::new();
-    let mut receivers = [Receiver::new(); 4];
+    let mut receivers = [Demodulator::new(Mode::Idle); 4];
+    let mut made = [false; 4];
     let mut turns = u64::MAX;
     while turns > 0 && !out.is_broken {
         turns -= 1;
@@ -52,15 +40,16 @@ fn main() {
         if next.is_end {
             break;
         }
-        let r = called(&line, next.len);
+        let r = called(&line, next.len, made);
         if r < 4 {
             let old = receivers[r];
-            let served = old.serve(receivers[leader(&line, next.len)], &line, next.len);
+            let served = serve(old, receivers[leader(&line, next.len)], &line, next.len);
             let new = served.receiver;
             receivers[r] = new;
+            made[r] = true;
             out = out.add(&mut answers, served.answer);
         } else {
-            let step = step(session, &mut line, next.len);
+            let step = session.step(&line, next.len);
             session = step.session;
             out = out.add(&mut answers, step.answer);
         }

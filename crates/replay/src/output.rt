@@ -1,5 +1,6 @@
 // The answers, gathered in a block and written to standard output a block at a time.
 use crate::input::Block;
+use crate::input::put;
 use libc::STDERR_FILENO;
 use libc::STDOUT_FILENO;
 use text::Text;
@@ -8,19 +9,6 @@ use text::Text;
 pub struct Output {
     pub len: usize,
     pub is_broken: bool,
-}
-
-fn put(block: &mut Block, at: usize, byte: u8) {
-    if at < 65536 {
-        block[at] = byte;
-    }
-}
-
-// Puts bytes into the block, from a place on.
-fn put_all(block: &mut Block, at: usize, bytes: &[u8]) {
-    for i in 0..bytes.len() {
-        put(block, std::num::wrapping_add_usize(at, i), bytes[i]);
-    }
 }
 
 impl Output {
@@ -55,7 +43,7 @@ impl Output {
     pub(crate) fn add(self, block: &mut Block, text: Text) -> Output {
         let room = self.with_room(&*block);
         let bytes = text.bytes;
-        put_all(block, room.len, text::front(&bytes, text.len));
+        put(block, room.len, text::front(&bytes, text.len), 0);
         Output {
             len: std::num::wrapping_add_usize(room.len, text.len),
             is_broken: room.is_broken,

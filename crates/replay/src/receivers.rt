@@ -2,6 +2,8 @@
 use crate::answer::error;
 use crate::answer::ok;
 use crate::answer::refused;
+use crate::answer::with_number;
+use crate::field;
 use crate::field::count;
 use crate::field::counter;
 use crate::field::field;
@@ -9,7 +11,6 @@ use crate::field::is_counter;
 use crate::field::is_sample;
 use crate::field::letter;
 use crate::field::number;
-use crate::field::sample;
 use crate::input::Block;
 use demodulator::Answer;
 use demodulator::Demodulator;
@@ -23,15 +24,9 @@ ghost use Prim.Native.Nat.{_<_};
 
 const LONGEST_SLICE: u64 = 4096;
 
-// A receiver, which a call has made or not yet.
-pub struct Receiver {
-    pub is_made: bool,
-    pub state: Demodulator,
-}
-
 // The receiver after a call, and its answer.
 pub struct Served {
-    pub receiver: Receiver,
+    pub receiver: Demodulator,
     pub answer: Text,
 }
 
@@ -44,6 +39,12 @@ fn low(line: &[u8], k: usize) -> usize {
     if n < 4 { n as usize } else { 4 }
 }
 
+// Whether a call has made the receiver in field k.
+fn is_made(line: &[u8], k: usize, made: [bool; 4]) -> bool {
+    let r = low(line, k);
+    if r < 4 { made[r] } else { false }
+}
+
 fn is_take(line: &[u8]) -> bool {
     (letter(line, 0) == b't')
         & (number(line, 2) <= LONGEST_SLICE)
@@ -51,18 +52,24 @@ fn is_take(line: &[u8]) -> bool {
         & (number(line, 4) <= LONGEST_SLICE)
 }
 
-fn is_call(line: &[u8]) -> bool {
-    match count(line) {
-        3 => (low(line, 2) < 4) & (check::same(field(line, 0), b"new") | (letter(line, 0) == b'f')),
-        5 => ((letter(line, 0) == b's') & is_counter(line, 2) & is_sample(line, 3)) | is_take(line),
-        _ => false,
-    }
+fn is_sampling(line: &[u8]) -> bool {
+    (letter(line, 0) == b's') & is_counter(line, 2) & is_sample(line, 3)
 }
 
-// The receiver that the block's line of that length calls; 4 where it calls none.
-pub(crate) fn called(block: &Block, len: usize) -> usize {
+fn is_new(line: &[u8]) -> bool {
+    check::same(field(line, 0), b"new") & (low(line, 2) < 4)
+}
+
+// The receiver that the block's line of that length calls, or 4 where it calls none of those that are made.
+pub(crate) fn called(block: &Block, len: usize, made: [bool; 4]) -> usize {
     let line = text::front(block, len);
-    if is_call(line) { low(line, 1) } else { 4 }
+    let is_call = match count(line) {
+        3 => is_new(line)
+            | ((letter(line, 0) == b'f') & is_made(line, 1, made) & is_made(line, 2, made)),
+        5 => is_made(line, 1, made) & (is_sampling(line) | is_take(line)),
+        _ => false,
+    };
+    if is_call { low(line, 1) } else { 4 }
 }
 
 // The receiver that the called one is told to follow; any where it is not told to.
@@ -89,10 +96,8 @@ fn is_all(bytes: &[u8], byte: u8) -> bool {
 
 // The text with type, errors and bits of a burst behind it.
 fn with_burst(text: Text, told: RxBurst, lent: &Lent) -> Text {
-    let start = text.append(b" ")
-        .decimal(told.train_type as u64)
-        .append(b" ")
-        .decimal(told.train_errs as u64);
+    let kind = with_number(text, told.train_type as u64);
+    let start = with_number(kind, told.train_errs as u64);
     if told.burst_len == 0 {
         return start.append(b" -");
     }
@@ -108,7 +113,7 @@ fn is_padded(told: RxBurst, lent: &Lent, len: usize) -> bool {
 }
 
 fn slot_text(told: RxSlot, slot: &Lent, half1: &Lent, half2: &Lent) -> Text {
-    let number = Text::new().append(b"slot ").decimal(told.time.0 as u64);
+    let number = with_number(Text::new().append(b"slot"), told.time.0 as u64);
     let full = with_burst(number, told.full, slot);
     let first = with_burst(full, told.subslot1, half1);
     with_burst(first, told.subslot2, half2).append(b"\n")
@@ -137,17 +142,10 @@ fn taken(answer: TakeAnswer, slot: &Lent, half1: &Lent, half2: &Lent) -> Text {
     }
 }
 
-// The answer to a sample; an accepted one has none.
-fn sampled(answer: Answer) -> Text {
+// The answer to a call that is accepted with that text or refused.
+fn told(answer: Answer, accepted: Text) -> Text {
     match answer {
-        Answer::Accepted => Text::new(),
-        Answer::Refused(number) => refused(number),
-    }
-}
-
-fn followed(answer: Answer) -> Text {
-    match answer {
-        Answer::Accepted => ok(),
+        Answer::Accepted => accepted,
         Answer::Refused(number) => refused(number),
     }
 }
@@ -161,69 +159,57 @@ fn mode_of(number: usize) -> Mode {
     }
 }
 
-fn made(state: Demodulator, answer: Text) -> Served {
+fn sample(old: Demodulator, line: &[u8]) -> Served {
+    let next = old.sample(field::sample(line, 3), counter(line, 2));
+    let answer = next.answer;
+    let receiver = next.receiver;
     Served {
-        receiver: Receiver {
-            is_made: true,
-            state,
-        },
-        answer,
+        receiver,
+        answer: told(answer, Text::new()),
     }
 }
 
-impl Receiver {
-    pub(crate) fn new() -> Receiver {
-        Receiver {
-            is_made: false,
-            state: Demodulator::new(Mode::Idle),
-        }
+fn take(old: Demodulator, line: &[u8]) -> Served {
+    let mut slot = [7u8; 4096];
+    let mut half1 = [7u8; 4096];
+    let mut half2 = [7u8; 4096];
+    let next = old.take_demodulated_slot(
+        front(&mut slot, line, 2),
+        front(&mut half1, line, 3),
+        front(&mut half2, line, 4),
+    );
+    let answer = next.answer;
+    let receiver = next.receiver;
+    Served {
+        receiver,
+        answer: taken(answer, &slot, &half1, &half2),
     }
+}
 
-    fn sample(self, line: &[u8]) -> Served {
-        let old = self.state;
-        let next = old.sample(sample(line, 3), counter(line, 2));
-        let answer = next.answer;
-        made(next.receiver, sampled(answer))
+fn follow(old: Demodulator, leader: Demodulator) -> Served {
+    let next = old.sync_to_demodulator(leader);
+    let answer = next.answer;
+    let receiver = next.receiver;
+    Served {
+        receiver,
+        answer: told(answer, ok()),
     }
+}
 
-    fn take(self, line: &[u8]) -> Served {
-        let mut slot = [7u8; 4096];
-        let mut half1 = [7u8; 4096];
-        let mut half2 = [7u8; 4096];
-        let old = self.state;
-        let next = old.take_demodulated_slot(
-            front(&mut slot, line, 2),
-            front(&mut half1, line, 3),
-            front(&mut half2, line, 4),
-        );
-        let answer = next.answer;
-        made(next.receiver, taken(answer, &slot, &half1, &half2))
+fn anew(line: &[u8]) -> Served {
+    Served {
+        receiver: Demodulator::new(mode_of(low(line, 2))),
+        answer: ok(),
     }
+}
 
-    fn follow(self, leader: Receiver) -> Served {
-        let old = self.state;
-        let next = old.sync_to_demodulator(leader.state);
-        let answer = next.answer;
-        made(next.receiver, followed(answer))
-    }
-
-    // Makes the call of the block's line of that length.
-    pub(crate) fn serve(self, leader: Receiver, block: &Block, len: usize) -> Served {
-        let line = text::front(block, len);
-        let name = letter(line, 0);
-        if name == 0 {
-            return made(Demodulator::new(mode_of(low(line, 2))), ok());
-        }
-        if !self.is_made | ((name == b'f') & !leader.is_made) {
-            return Served {
-                receiver: self,
-                answer: error(),
-            };
-        }
-        match name {
-            b's' => self.sample(line),
-            b't' => self.take(line),
-            _ => self.follow(leader),
-        }
+// Makes the call of the block's line of that length.
+pub(crate) fn serve(old: Demodulator, leader: Demodulator, block: &Block, len: usize) -> Served {
+    let line = text::front(block, len);
+    match letter(line, 0) {
+        b's' => sample(old, line),
+        b't' => take(old, line),
+        b'f' => follow(old, leader),
+        _ => anew(line),
     }
 }

@@ -4,16 +4,18 @@ use crate::answer::ok;
 use crate::answer::refused;
 use crate::answer::sample;
 use crate::field;
+use crate::field::LARGEST_U32;
+use crate::field::bits;
 use crate::field::count;
 use crate::field::counter;
-use crate::field::digits;
-use crate::field::field;
+use crate::field::has_digits;
 use crate::field::is_counter;
 use crate::field::is_sample;
-use crate::field::is_u32;
 use crate::field::letter;
-use crate::field::number_u32;
-use crate::field::read_bits;
+use crate::field::narrow;
+use crate::field::number;
+use crate::input::Block;
+use crate::input::put;
 use crate::stateless;
 use dsp_types::ComplexSample;
 use dsp_types::TdmaTime;
@@ -36,14 +38,11 @@ pub struct Step {
     pub answer: Text,
 }
 
-// Whether the line is a call of the sender; its bits are values afterwards. Those that are given as `-` are none.
-fn read_send(line: &mut [u8]) -> bool {
-    let is_good = is_counter(&*line, 1) & is_u32(&*line, 2);
-    if letter(&*line, 3) == b'-' {
-        is_good
-    } else {
-        is_good & read_bits(line, 3)
-    }
+// Whether the line is a call of the sender. Bits that are given as `-` are none.
+fn is_send(line: &[u8]) -> bool {
+    is_counter(line, 1)
+        & (number(line, 2) <= LARGEST_U32)
+        & ((letter(line, 3) == b'-') | has_digits(line, 3))
 }
 
 // The answer to a call of the sender, of which there are a refusal or a sample's parts.
@@ -65,15 +64,9 @@ impl Session {
         }
     }
 
-    fn error(self) -> Step {
-        Step {
-            session: self,
-            answer: error(),
-        }
-    }
-
     // The filter line or the sender anew.
     fn renew(mut self, line: &[u8]) -> Step {
+        let mut answer = ok();
         if check::same(line, b"lnew") {
             self.filter = FirComplexSym::new();
         } else if check::same(line, b"txnew") {
@@ -81,27 +74,25 @@ impl Session {
             self.sender = Modulator::new();
             self.phase = DqpskMapper::new();
         } else {
-            return self.error();
+            answer = error();
         }
         Step {
             session: self,
-            answer: ok(),
+            answer,
         }
     }
 
     // One sample of the sender, as a block of one.
-    fn send(mut self, line: &[u8]) -> Step {
+    fn send(mut self, line: &[u8], values: &Block) -> Step {
         let mut parts = [0.0f32; 2];
         let old = self.sender;
         let phase = self.phase;
-        let slot = TdmaTime(number_u32(line, 2));
-        let has_bits = letter(line, 3) != b'-';
         let sent = old.block(
             phase,
             counter(line, 1),
-            slot,
-            has_bits,
-            digits(line, 3),
+            TdmaTime(narrow(number(line, 2))),
+            letter(line, 3) != b'-',
+            bits(line, values, 3),
             &mut parts,
         );
         let sender = sent.modulator;
@@ -125,25 +116,25 @@ impl Session {
         }
     }
 
-    // Makes the call of a line.
-    pub(crate) fn step(self, line: &mut [u8]) -> Step {
-        let name = letter(&*line, 0);
-        let count = count(&*line);
+    // Makes the call of the block's line of that length.
+    pub(crate) fn step(self, block: &Block, len: usize) -> Step {
+        let line = text::front(block, len);
+        let name = letter(line, 0);
+        let count = count(line);
         if count == 1 {
-            return self.renew(&*line);
+            return self.renew(line);
         }
-        if (count == 3) & (name == b'l') & is_sample(&*line, 1) {
-            return self.push(field::sample(&*line, 1));
+        if (count == 3) & (name == b'l') & is_sample(line, 1) {
+            return self.push(field::sample(line, 1));
         }
-        if (count == 4) & (name == b'w') & self.is_sending {
-            if read_send(&mut *line) {
-                return self.send(&*line);
-            }
-            return self.error();
+        let mut values = [0u8; 65536];
+        put(&mut values, 0, line, b'0');
+        if (count == 4) & (name == b'w') & self.is_sending & is_send(line) {
+            return self.send(line, &values);
         }
         Step {
             session: self,
-            answer: stateless::answer(line),
+            answer: stateless::answer(line, &values),
         }
     }
 }

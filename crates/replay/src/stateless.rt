@@ -2,16 +2,18 @@
 use crate::answer::error;
 use crate::answer::float;
 use crate::answer::refused;
+use crate::answer::with_number;
+use crate::field::LARGEST_U32;
+use crate::field::bits;
 use crate::field::count;
 use crate::field::digits;
 use crate::field::has_digits;
 use crate::field::is_sample;
-use crate::field::is_u32;
 use crate::field::letter;
+use crate::field::narrow;
 use crate::field::number;
-use crate::field::number_u32;
-use crate::field::read_bits;
 use crate::field::sample;
+use crate::input::Block;
 use magnitude::magnitude;
 use slotter::Answer;
 use slotter::Burst;
@@ -39,29 +41,30 @@ fn is_letter(byte: u8) -> bool {
 // A burst from its letter and its blocks' characters, joined.
 fn build_joined(line: &[u8]) -> Text {
     let kind = letter(line, 1);
-    if !(is_letter(kind) & has_digits(line, 2)) {
-        return error();
+    if is_letter(kind) & has_digits(line, 2) {
+        built(block_text::answer(block_text::type_of(kind), digits(line, 2)))
+    } else {
+        error()
     }
-    built(block_text::answer(block_text::type_of(kind), digits(line, 2)))
 }
 
 // A burst from three slices.
-fn build(line: &mut [u8]) -> Text {
-    let is_sync = letter(&*line, 1) == b'S';
-    let are_bits = read_bits(&mut *line, 2) & read_bits(&mut *line, 3) & read_bits(&mut *line, 4);
-    if !(are_bits & (is_sync | is_u32(&*line, 1))) {
+fn build(line: &[u8], values: &Block) -> Text {
+    if !(has_digits(line, 2) & has_digits(line, 3) & has_digits(line, 4)) {
         return error();
     }
-    built(if is_sync {
-        build_sdb(digits(&*line, 2), digits(&*line, 3), digits(&*line, 4))
+    let blk1 = bits(line, values, 2);
+    let bbk = bits(line, values, 3);
+    let blk2 = bits(line, values, 4);
+    if letter(line, 1) == b'S' {
+        return built(build_sdb(blk1, bbk, blk2));
+    }
+    let train = number(line, 1);
+    if train <= LARGEST_U32 {
+        built(build_ndb(narrow(train), blk1, bbk, blk2))
     } else {
-        build_ndb(
-            number_u32(&*line, 1),
-            digits(&*line, 2),
-            digits(&*line, 3),
-            digits(&*line, 4),
-        )
-    })
+        error()
+    }
 }
 
 // The logger's call with so many answer bytes, of which there are enough.
@@ -73,30 +76,32 @@ fn judge_with(kind: u32, bits: &[u8], answer: &mut [u8], len: usize) -> u32 {
     }
 }
 
-// The text with the number of two bytes behind it, the low one first.
-fn with_number(text: Text, low: u8, high: u8) -> Text {
-    text.append(b" ").decimal(low as u64 + 256 * (high as u64))
+// The number of two bytes, the low one first.
+fn number_of(low: u8, high: u8) -> u64 {
+    low as u64 + 256 * (high as u64)
 }
 
 fn judged(kind: u32, bits: &[u8], len: usize) -> Text {
     let mut answer = [0u8; 4096];
-    let number = judge_with(kind, bits, &mut answer, len);
-    if number != 0 {
-        return refused(number);
+    let refusal = judge_with(kind, bits, &mut answer, len);
+    if refusal != 0 {
+        return refused(refusal);
     }
-    let burst = with_number(Text::new().append(b"judged"), answer[0], 0);
-    let errors = with_number(burst, answer[1], 0);
-    let place = with_number(errors, answer[2], answer[3]);
-    with_number(place, answer[4], answer[5]).append(b"\n")
+    let burst = with_number(Text::new().append(b"judged"), number_of(answer[0], 0));
+    let errors = with_number(burst, number_of(answer[1], 0));
+    let place = with_number(errors, number_of(answer[2], answer[3]));
+    with_number(place, number_of(answer[4], answer[5])).append(b"\n")
 }
 
 // Has bits judged.
-fn judge(line: &mut [u8]) -> Text {
-    let len = number(&*line, 2);
-    if !(is_u32(&*line, 1) & (len <= 4096) & read_bits(&mut *line, 3)) {
-        return error();
+fn judge(line: &[u8], values: &Block) -> Text {
+    let kind = number(line, 1);
+    let len = number(line, 2);
+    if (kind <= LARGEST_U32) & (len <= 4096) & has_digits(line, 3) {
+        judged(narrow(kind), bits(line, values, 3), len as usize)
+    } else {
+        error()
     }
-    judged(number_u32(&*line, 1), digits(&*line, 3), len as usize)
 }
 
 fn on_sample(line: &[u8]) -> Text {
@@ -119,18 +124,18 @@ fn of_three(line: &[u8]) -> Text {
     }
 }
 
-// The answer to a line; what is no call is answered by `error`.
-pub(crate) fn answer(line: &mut [u8]) -> Text {
-    let name = letter(&*line, 0);
-    let count = count(&*line);
+// The answer to a line, of which the block has the digits' values. What is no call is answered by `error`.
+pub(crate) fn answer(line: &[u8], values: &Block) -> Text {
+    let name = letter(line, 0);
+    let count = count(line);
     if count == 3 {
-        return of_three(&*line);
+        return of_three(line);
     }
     if (count == 4) & (name == b'j') {
-        return judge(line);
+        return judge(line, values);
     }
     if (count == 5) & (name == b'd') {
-        build(line)
+        build(line, values)
     } else {
         error()
     }

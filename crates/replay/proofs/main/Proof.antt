@@ -5,11 +5,11 @@ use Rattle.replay.proofs.main.Statement.{statement}
 use Rattle.replay.proofs.main.Tie as tie
 
 abbrev Inv-loop : tie.InvT-loop
-Inv-loop block₀ line₀ answers₀ input₀ out₀ session₀ receivers₀ turns₀ block line answers input out session receivers turns =
+Inv-loop block₀ line₀ answers₀ input₀ out₀ session₀ receivers₀ made₀ turns₀ block line answers input out session receivers made turns =
     Unit {0}
 
 abbrev μ-loop : tie.MeasureT-loop
-μ-loop block₀ line₀ answers₀ input₀ out₀ session₀ receivers₀ turns₀ block line answers input out session receivers turns =
+μ-loop block₀ line₀ answers₀ input₀ out₀ session₀ receivers₀ made₀ turns₀ block line answers input out session receivers made turns =
     turns
 
 new-requires : tie.Need-new-requires Inv-loop μ-loop
@@ -60,6 +60,9 @@ mul-receivers c = search needs
 array-set-from-receivers : tie.Need-array-set-from-receivers Inv-loop μ-loop
 array-set-from-receivers c = search needs
 
+array-write-made : tie.Need-array-write-made Inv-loop μ-loop
+array-write-made c = search needs
+
 add-requires : tie.Need-add-requires Inv-loop μ-loop
 add-requires c κs = search needs
 
@@ -109,6 +112,7 @@ main-spec =
     serve-requires
     mul-receivers
     array-set-from-receivers
+    array-write-made
     add-requires
     loop-less
     loop-again
