@@ -42,8 +42,12 @@ fn main() {
         }
         let r = called(&line, next.len, made);
         if r < 4 {
-            let old = receivers[r];
-            let served = serve(old, receivers[leader(&line, next.len)], &line, next.len);
+            let served = serve(
+                receivers[r],
+                receivers[leader(&line, next.len)],
+                &line,
+                next.len,
+            );
             let new = served.receiver;
             receivers[r] = new;
             made[r] = true;

@@ -36,20 +36,20 @@ next-line-requires c κs = search needs
 called-requires : tie.Need-called-requires Inv-loop μ-loop
 called-requires c κs = search needs
 
-mul-old : tie.Need-mul-old Inv-loop μ-loop
-mul-old c = search needs
-
-array-copy-out-old : tie.Need-array-copy-out-old Inv-loop μ-loop
-array-copy-out-old c = search needs
-
-leader-requires : tie.Need-leader-requires Inv-loop μ-loop
-leader-requires c κs = search needs
-
 mul-serve : tie.Need-mul-serve Inv-loop μ-loop
 mul-serve c = search needs
 
 array-copy-out-serve : tie.Need-array-copy-out-serve Inv-loop μ-loop
 array-copy-out-serve c = search needs
+
+leader-requires : tie.Need-leader-requires Inv-loop μ-loop
+leader-requires c κs = search needs
+
+mul-serve-2 : tie.Need-mul-serve-2 Inv-loop μ-loop
+mul-serve-2 c = search needs
+
+array-copy-out-serve-2 : tie.Need-array-copy-out-serve-2 Inv-loop μ-loop
+array-copy-out-serve-2 c = search needs
 
 serve-requires : tie.Need-serve-requires Inv-loop μ-loop
 serve-requires c κs = search needs
@@ -104,11 +104,11 @@ main-spec =
     sub-turns
     next-line-requires
     called-requires
-    mul-old
-    array-copy-out-old
-    leader-requires
     mul-serve
     array-copy-out-serve
+    leader-requires
+    mul-serve-2
+    array-copy-out-serve-2
     serve-requires
     mul-receivers
     array-set-from-receivers
