@@ -27,6 +27,26 @@ fn piece_end(i: usize, n: usize) -> usize
     if n - i < 256 { n } else { i + 256 }
 }
 
+// A part of a slice, which lies within it; else none.
+fn part(s: &[f32], from: usize, to: usize) -> &[f32] {
+    if to < from {
+        return &s[0..0];
+    }
+    if s.len() < to {
+        return &s[0..0];
+    }
+    &s[from..to]
+}
+
+// A slice from a place on, which lies within it; else all.
+fn rest(s: &mut [f32], from: usize) -> &mut [f32] {
+    if from < s.len() {
+        &mut s[from..]
+    } else {
+        &mut s[0..]
+    }
+}
+
 // The filter from a new line, one call a sample.
 #[no_mangle]
 pub extern "C" fn bench_filter_single(
@@ -61,7 +81,12 @@ pub extern "C" fn bench_filter_block(
     let mut i = 0;
     while i < n {
         let end = piece_end(i, n);
-        line = line.block(&re[i..end], &im[i..end], &mut out_re[i..], &mut out_im[i..]);
+        line = line.block(
+            part(re, i, end),
+            part(im, i, end),
+            rest(out_re, i),
+            rest(out_im, i),
+        );
         i = end;
     }
 }

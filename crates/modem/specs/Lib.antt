@@ -1,4 +1,3 @@
-pub mod Judge
 pub mod Receive
 pub mod Build
 pub mod Send

@@ -8,7 +8,8 @@ use modulator::Modulator;
 ghost use mathlib.Core.Path.{_≡_};
 ghost use Prim.Native.Nat.{_/_};
 ghost use lib.ListN.{length};
-ghost use Rattle.modulator.specs.Sender.{dueOf, told, newSender, tells, after};
+ghost use Rattle.mapper.specs.Due.{dueOf};
+ghost use Rattle.modulator.specs.Sender.{told, newSender, tells, after};
 ghost use Rattle.modulator.specs.Blocks.{dueAfter, blockCall, Wrote};
 ghost use Rattle.modem.specs.Send.{isGiven, senderIn, sampleTold};
 

@@ -20,12 +20,13 @@ use Rattle.dsp_types.specs.Samples.{silence, ago}
 use Rattle.fir.specs.Fir.{filterOf, lineAfter, outsOf, samplesOf, blockOf, startWith, reOf, imOf}
 use Rattle.fir.proofs.Laws.{line-append, outs-append, length-outs, start-part, samples-parts}
 use Rattle.fir.proofs.Rows.{rest}
-use Rattle.modulator.specs.declared.due.Due.{Due}
-use Rattle.modulator.specs.declared.due.Due.the-variants.{Refused, Silence, Symbol}
-use Rattle.modulator.specs.Dqpsk.{phaseAfter, inputOf}
-use Rattle.modulator.specs.Sender.{inputRefusal, startOf, placeIn, symbolAt, dueIn, dueAt, dueIf, dueOf, refusalOf, shapedOf, toldOf, nextLine, Told, Sender, fedBy, tells, after}
+use Rattle.mapper.specs.declared.Due.{Due}
+use Rattle.mapper.specs.declared.Due.the-variants.{Refused, Silence, Symbol}
+use Rattle.mapper.specs.Dqpsk.{phaseAfter, inputOf}
+use Rattle.mapper.specs.Due.{inputRefusal, startOf, placeIn, symbolAt, dueIn, dueAt, dueIf, dueOf, refusalOf}
+use Rattle.modulator.specs.Sender.{shapedOf, toldOf, nextLine, Told, Sender, fedBy, tells, after}
 use Rattle.modulator.specs.Blocks.{Block, joinedIf, joined, sentBlock, blockCall, dueAfter, partsOf, Wrote, placeDue, inputsOf, phasesOf, fedBlock, leftOf}
-use Rattle.modulator.proofs.Places.{true-ne, early, late, within, slot-accepted}
+use Rattle.mapper.proofs.Places.{true-ne, early, late, within, slot-accepted}
 
 -- it is not a refusal
 abbrev pub Sends : Due → Type 0
@@ -118,10 +119,11 @@ module _ (m start : ℕ) (b : Bool) (bits : List ℕ) where
       go false = tt
 
   sends-at : m + 16 < start + 1020 → Sends (dueAt b bits (placeIn (pos m) start))
+  unfolding placeIn
   sends-at h =
       ⊎-elim
-      (λ (l : start ≤ m + 16). subst Sends (sym (within m start b bits l (omega arith))) (sends-in (m + 16 - start)))
-      (λ (l : m + 16 < start). subst Sends (early m start b bits l) tt)
+      (λ (l : start ≤ m + 16). subst Sends (sym (within (m + 16) start b bits l (omega arith))) (sends-in (m + 16 - start)))
+      (λ (l : m + 16 < start). subst Sends (early (m + 16) start b bits l) tt)
       (le-or-lt (start) (m + 16))
 
 module _ (m slot : ℕ) (b : Bool) (bits : List ℕ) (h : inputRefusal (pos m) slot b bits ≡ 0) where
@@ -140,8 +142,8 @@ module _ (m slot : ℕ) (b : Bool) (bits : List ℕ) (h : inputRefusal (pos m) s
   over e = rw (lt-ltb lastCounter (m + leftOf m (startOf slot)) (omega arith))
 
   past : m + leftOf m (startOf slot) ≤ lastCounter → dueAfter (pos m) slot b bits (leftOf m (startOf slot)) ≡ Refused 12
-  unfolding placeDue leftOf
-  past l = going (leftOf m (startOf slot)) l ∙ sym (late (m + leftOf m (startOf slot)) (startOf slot) b bits (omega arith) (omega arith))
+  unfolding placeDue placeIn leftOf
+  past l = going (leftOf m (startOf slot)) l ∙ sym (late (m + leftOf m (startOf slot) + 16) (startOf slot) b bits (omega arith) (omega arith))
 
   pub ends : (r : ℕ) → m + leftOf m (startOf slot) ≤ counters → r ≡ cond (eqb (m + leftOf m (startOf slot)) counters) 2 12 → dueAfter (pos m) slot b bits (leftOf m (startOf slot)) ≡ Refused r
   ends r h e = go (eqb (m + leftOf m (startOf slot)) counters) refl ∙ ap Refused (sym e)

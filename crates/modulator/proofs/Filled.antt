@@ -9,8 +9,8 @@ use lib.Seq.{take-suc-set, drop-cons, drop-drop, drop-set-lt, length-take-le, ap
 use lib.Ieee.{Float, nan}
 use Rattle.dsp_types.specs.declared.ComplexSample.{ComplexSample}
 use Rattle.fir.specs.Fir.{samplesOf, startWith}
-use Rattle.modulator.specs.declared.due.Due.{Due}
-use Rattle.modulator.specs.Dqpsk.{phaseAfter, inputOf}
+use Rattle.mapper.specs.declared.Due.{Due}
+use Rattle.mapper.specs.Dqpsk.{phaseAfter, inputOf}
 use Rattle.modulator.specs.Blocks.{partsOf, inputsOf, phasesOf}
 
 module _ (due : ℕ → Due) (count n p k : ℕ) where

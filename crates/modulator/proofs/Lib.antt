@@ -1,5 +1,3 @@
 pub mod Blocks
 pub mod Filled
-pub mod Places
-pub mod Phases
 pub mod Steps

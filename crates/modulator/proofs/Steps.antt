@@ -7,15 +7,15 @@ use native.Mathlib.Omega.{arith}
 use lib.ListN.{length}
 use Rattle.dsp_types.specs.declared.ComplexSample.{ComplexSample}
 use Rattle.fir.specs.Fir.{lineOf}
-use Rattle.modulator.specs.declared.due.Due.{Due}
-use Rattle.modulator.specs.declared.due.Due.the-variants.{Refused, Silence, Symbol}
-use Rattle.modulator.specs.declared.mapper.DqpskMapper.{DqpskMapper}
+use Rattle.mapper.specs.declared.Due.{Due}
+use Rattle.mapper.specs.declared.Due.the-variants.{Refused, Silence, Symbol}
+use Rattle.mapper.specs.declared.DqpskMapper.{DqpskMapper}
 use Rattle.modulator.specs.declared.sender.Answer.{Answer}
 use Rattle.modulator.specs.declared.sender.Answer.the-variants as answer
 use Rattle.modulator.specs.declared.sender.Sampled.{Sampled}
 use Rattle.modulator.specs.declared.sender.Stepped.{Stepped as Beside}
 use Rattle.modulator.specs.declared.sender.Modulator.{Modulator}
-use Rattle.modulator.specs.Dqpsk.{phaseAfter, inputOf}
+use Rattle.mapper.specs.Dqpsk.{phaseAfter, inputOf}
 use Rattle.modulator.specs.Sender.{Told, told, shapedOf, toldOf, nextLine, senderOf, tells, after, fedBy}
 
 -- ---- `told` tells all answers apart

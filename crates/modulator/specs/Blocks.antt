@@ -9,9 +9,10 @@ use lib.Ieee.{Float}
 use Rattle.dsp_types.specs.declared.ComplexSample.{ComplexSample}
 use Rattle.dsp_types.specs.Refusals.{accepted, counters}
 use Rattle.fir.specs.Fir.{lineAfter, outsOf, startWith}
-use Rattle.modulator.specs.declared.due.Due.{Due}
-use Rattle.modulator.specs.Dqpsk.{phaseAfter, inputOf}
-use Rattle.modulator.specs.Sender.{placeIn, dueAt, dueOf, refusalOf, Told, Sender, tells, after}
+use Rattle.mapper.specs.declared.Due.{Due}
+use Rattle.mapper.specs.Dqpsk.{phaseAfter, inputOf}
+use Rattle.mapper.specs.Due.{placeIn, dueAt, dueOf, refusalOf}
+use Rattle.modulator.specs.Sender.{Told, Sender, tells, after}
 
 -- the samples, oldest first, the number of the refusal that stopped them, if any, and the sender then
 pub record Block : Type 0 where

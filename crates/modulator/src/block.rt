@@ -1,10 +1,4 @@
 // A block of samples in one call, for gateways: what the calls one by one would send.
-use crate::due::due_at;
-use crate::due::refusal_now;
-use crate::due::start_of;
-use crate::mapper::DqpskMapper;
-use crate::mapper::input;
-use crate::mapper::phase_after;
 use crate::sender::Modulator;
 use dsp_types::ACCEPTED;
 use dsp_types::BAD_COUNTER;
@@ -13,6 +7,12 @@ use dsp_types::NEED_MORE_DATA;
 use dsp_types::SampleCount;
 use dsp_types::TdmaTime;
 use dsp_types::least;
+use mapper::DqpskMapper;
+use mapper::due_at;
+use mapper::input;
+use mapper::phase_after;
+use mapper::refusal_now;
+use mapper::start_of;
 ghost use mathlib.Core.Path.{_≡_};
 ghost use mathlib.Core.Bool.{cond};
 ghost use Prim.Native.Nat.{_+_, _*_, _/_, _≤_, _<_, _^_};
@@ -20,7 +20,7 @@ ghost use lib.Dec.{eqb};
 ghost use lib.ListN.{length, take};
 ghost use Rattle.dsp_types.specs.Refusals.{badCounter, needMoreData, lastCounter, counters};
 ghost use Rattle.fir.specs.Fir.{samplesOf, startWith, reOf, imOf};
-ghost use Rattle.modulator.specs.Sender.{Bits, senderOf};
+ghost use Rattle.modulator.specs.Sender.{senderOf};
 ghost use Rattle.modulator.specs.Blocks.{dueAfter, blockCall, partsOf, Wrote, placeDue, inputsOf, phasesOf, fedBlock, leftOf};
 
 pub struct Sent {
@@ -74,7 +74,7 @@ fn fill(
     has_bits: bool,
     bits: &[u8],
 ) -> u8
-    requires { ⌜ (count ≤ length (now re)) × (count ≤ length (now im)) × (counter + count ≤ counters) × Bits «has_bits» (now bits) ⌝ }
+    requires { ⌜ (count ≤ length (now re)) × (count ≤ length (now im)) × (counter + count ≤ counters) ⌝ }
     ensures { λ r. ⌜
         (let due = placeDue counter start «has_bits» (now (bits .entry)) in
         (r ≡ phasesOf due count 0 phase)
@@ -83,7 +83,7 @@ fn fill(
 {
     let mut next = phase;
     for n in 0..count {
-        let due = due_at(counter + n as u64, start, has_bits, bits);
+        let due = due_at(counter + n as u64 + 16, start, has_bits, bits);
         next = phase_after(next, due);
         let x = input(next, due);
         re[n] = x.re;
@@ -115,7 +115,7 @@ impl Modulator {
         bits: &[u8],
         out: &mut [f32],
     ) -> Piece
-        requires { ⌜ (count ≤ 256) × (2 * count ≤ length (now out)) × (counter + count ≤ counters) × Bits «has_bits» (now bits) ⌝ }
+        requires { ⌜ (count ≤ 256) × (2 * count ≤ length (now out)) × (counter + count ≤ counters) ⌝ }
         ensures { λ r. ⌜ Wrote (fedBlock (placeDue counter start «has_bits» (now (bits .entry))) count 0 (senderOf self mapper))
             count 0 (senderOf (r .modulator) (r .mapper)) (now (out .entry)) (now (out .exit)) ⌝ }
     {
@@ -154,7 +154,7 @@ impl Modulator {
         bits: &[u8],
         out: &mut [f32],
     ) -> Sent
-        requires { ⌜ (2 * count ≤ length (now out)) × (counter + count ≤ counters) × Bits «has_bits» (now bits) ⌝ }
+        requires { ⌜ (2 * count ≤ length (now out)) × (counter + count ≤ counters) ⌝ }
         ensures { λ r. ⌜ Wrote (fedBlock (placeDue counter start «has_bits» (now (bits .entry))) count refusal (senderOf self mapper))
             (r .count) (r .refusal) (senderOf (r .modulator) (r .mapper)) (now (out .entry)) (now (out .exit)) ⌝ }
     {

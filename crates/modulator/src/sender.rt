@@ -1,18 +1,19 @@
 // The sender: its pulse shaping filter, and one sample a call.
-use crate::due::Due;
-use crate::due::due_now;
-use crate::mapper::DqpskMapper;
 use dsp_types::ComplexSample;
 use dsp_types::SampleCount;
 use dsp_types::TdmaTime;
 use fir::FirComplexSym;
+use mapper::DqpskMapper;
+use mapper::Due;
+use mapper::due_now;
 ghost use mathlib.Core.Path.{_≡_};
 ghost use mathlib.Core.List.{_∷_};
 ghost use Prim.Native.Nat.{ℕ};
 ghost use lib.ListN.{take, replicate};
 ghost use Rattle.dsp_types.specs.Samples.{silence};
 ghost use Rattle.fir.specs.Fir.{lineOf};
-ghost use Rattle.modulator.specs.Sender.{dueOf, told, shapedOf, toldOf, nextLine, senderOf, tells, after};
+ghost use Rattle.mapper.specs.Due.{dueOf};
+ghost use Rattle.modulator.specs.Sender.{told, shapedOf, toldOf, nextLine, senderOf, tells, after};
 
 pub enum Answer {
     Sample { re: f32, im: f32 },

@@ -57,6 +57,14 @@ fn add(line: &mut Block, len: usize, byte: u8) -> usize {
     }
 }
 
+// Puts bytes into a block from a place on, each less the same number.
+pub(crate) fn put(block: &mut Block, at: usize, bytes: &[u8], less: u8) {
+    for i in 0..bytes.len() {
+        let byte = std::num::wrapping_sub_u8(bytes[i], less);
+        add(block, std::num::wrapping_add_usize(at, i), byte);
+    }
+}
+
 // Moves the block's bytes to a line of that length, up to the end of the block or of the line.
 fn move_part(block: &Block, input: Input, line: &mut Block, len: usize) -> Part {
     let end = input.len;

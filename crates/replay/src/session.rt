@@ -1,65 +1,56 @@
-// What a list of calls works on, and the answer to each call.
-use crate::bursts::built;
-use crate::bursts::judge;
-use crate::calls::Call;
-use crate::field::Span;
-use crate::field::part;
+// What a list of calls works on besides receivers: a lone filter line, and a sender with its phase record.
+use crate::answer::error;
+use crate::answer::ok;
+use crate::answer::refused;
+use crate::answer::sample;
+use crate::field;
+use crate::field::LARGEST_U32;
+use crate::field::bits;
+use crate::field::count;
+use crate::field::counter;
+use crate::field::has_digits;
+use crate::field::is_counter;
+use crate::field::is_sample;
+use crate::field::letter;
+use crate::field::narrow;
+use crate::field::number;
 use crate::input::Block;
-use crate::output::Output;
+use crate::input::put;
+use crate::stateless;
 use dsp_types::ComplexSample;
-use dsp_types::SampleCount;
 use dsp_types::TdmaTime;
 use fir::FirComplexSym;
-use magnitude::magnitude;
 use modulator::DqpskMapper;
 use modulator::Modulator;
-use slotter::build_ndb;
-use slotter::build_sdb;
-use timing::quarter_turns;
+use text::Text;
 
 pub struct Session {
-    // The lone filter line.
     pub filter: FirComplexSym,
-    // The sender and its phase record, once it is made.
+    // Whether a call has made the sender.
     pub is_sending: bool,
     pub sender: Modulator,
     pub phase: DqpskMapper,
 }
 
-// The session after a call, and the answers with the call's.
+// The session after a call, and its answer.
 pub struct Step {
     pub session: Session,
-    pub out: Output,
+    pub answer: Text,
 }
 
-fn slice(line: &Block, at: Span) -> &[u8] {
-    part(line, at.from, at.to)
+// Whether the line is a call of the sender. Bits that are given as `-` are none.
+fn is_send(line: &[u8]) -> bool {
+    is_counter(line, 1)
+        & (number(line, 2) <= LARGEST_U32)
+        & ((letter(line, 3) == b'-') | has_digits(line, 3))
 }
 
-// The answer to a call that works on nothing that is kept.
-fn answer(out: Output, block: &mut Block, line: &Block, call: Call) -> Output {
-    match call {
-        Call::Judge(kind, len, bits) => judge(out, block, kind, len, slice(line, bits)),
-        Call::BuildJoined(letter, characters) => {
-            let burst = block_text::answer(block_text::type_of(letter), slice(line, characters));
-            built(out, block, burst)
-        }
-        Call::BuildSync(blk1, bbk, blk2) => {
-            let burst = build_sdb(slice(line, blk1), slice(line, bbk), slice(line, blk2));
-            built(out, block, burst)
-        }
-        Call::BuildNormal(train, blk1, bbk, blk2) => {
-            let burst = build_ndb(
-                train,
-                slice(line, blk1),
-                slice(line, bbk),
-                slice(line, blk2),
-            );
-            built(out, block, burst)
-        }
-        Call::Magnitude(x) => out.float(block, magnitude(x.re, x.im)),
-        Call::QuarterTurns(x) => out.float(block, quarter_turns(x.re, x.im)),
-        _ => out.text(block, b"error\n"),
+// The answer to a call of the sender, of which there are a refusal or a sample's parts.
+fn sent(refusal: u32, re: f32, im: f32) -> Text {
+    if refusal == 0 {
+        sample(ComplexSample { re, im })
+    } else {
+        refused(refusal)
     }
 }
 
@@ -73,88 +64,77 @@ impl Session {
         }
     }
 
-    fn new_sender(mut self, out: Output, block: &mut Block) -> Step {
-        self.is_sending = true;
-        self.sender = Modulator::new();
-        self.phase = DqpskMapper::new();
+    // The filter line or the sender anew.
+    fn renew(mut self, line: &[u8]) -> Step {
+        let mut answer = ok();
+        if check::same(line, b"lnew") {
+            self.filter = FirComplexSym::new();
+        } else if check::same(line, b"txnew") {
+            self.is_sending = true;
+            self.sender = Modulator::new();
+            self.phase = DqpskMapper::new();
+        } else {
+            answer = error();
+        }
         Step {
             session: self,
-            out: out.text(block, b"ok\n"),
+            answer,
         }
     }
 
     // One sample of the sender, as a block of one.
-    fn send(
-        mut self,
-        out: Output,
-        block: &mut Block,
-        counter: SampleCount,
-        slot: TdmaTime,
-        has_bits: bool,
-        bits: &[u8],
-    ) -> Step {
+    fn send(mut self, line: &[u8], values: &Block) -> Step {
         let mut parts = [0.0f32; 2];
         let old = self.sender;
         let phase = self.phase;
-        let sent = old.block(phase, counter, slot, has_bits, bits, &mut parts);
+        let sent = old.block(
+            phase,
+            counter(line, 1),
+            TdmaTime(narrow(number(line, 2))),
+            letter(line, 3) != b'-',
+            bits(line, values, 3),
+            &mut parts,
+        );
         let sender = sent.modulator;
         let mapper = sent.mapper;
         self.sender = sender;
         self.phase = mapper;
-        if sent.refusal != 0 {
-            return Step {
-                session: self,
-                out: out.refused(block, sent.refusal),
-            };
-        }
-        let sample = ComplexSample {
-            re: parts[0],
-            im: parts[1],
-        };
         Step {
             session: self,
-            out: out.sample(block, sample),
+            answer: self::sent(sent.refusal, parts[0], parts[1]),
         }
     }
 
-    fn new_line(mut self, out: Output, block: &mut Block) -> Step {
-        self.filter = FirComplexSym::new();
-        Step {
-            session: self,
-            out: out.text(block, b"ok\n"),
-        }
-    }
-
-    fn push(mut self, out: Output, block: &mut Block, x: ComplexSample) -> Step {
+    fn push(mut self, x: ComplexSample) -> Step {
         let old = self.filter;
         let filtered = old.sample(x);
         let new = filtered.line;
         self.filter = new;
         Step {
             session: self,
-            out: out.sample(block, filtered.out),
+            answer: sample(filtered.out),
         }
     }
 
-    // Makes a call whose bits lie in the line.
-    pub(crate) fn step(self, out: Output, block: &mut Block, line: &Block, call: Call) -> Step {
-        match call {
-            Call::NewLine => self.new_line(out, block),
-            Call::Filter(x) => self.push(out, block, x),
-            Call::NewSender => self.new_sender(out, block),
-            Call::Send(counter, slot, has_bits, bits) => {
-                if !self.is_sending {
-                    return Step {
-                        session: self,
-                        out: out.text(block, b"error\n"),
-                    };
-                }
-                self.send(out, block, counter, slot, has_bits, slice(line, bits))
-            }
-            _ => Step {
-                session: self,
-                out: answer(out, block, line, call),
-            },
+    // Makes the call of the block's line of that length.
+    pub(crate) fn step(self, block: &Block, len: usize) -> Step {
+        let line = text::front(block, len);
+        let name = letter(line, 0);
+        let count = count(line);
+        if count == 1 {
+            return self.renew(line);
+        }
+        if (count == 3) & (name == b'l') & is_sample(line, 1) {
+            return self.push(field::sample(line, 1));
+        }
+        let mut values = [0u8; 65536];
+        put(&mut values, 0, line, b'0');
+        if (count == 4) & (name == b'w') & self.is_sending & is_send(line) {
+            return self.send(line, &values);
+        }
+        Step {
+            session: self,
+            answer: stateless::answer(line, &values),
         }
     }
 }

@@ -1,4 +1,4 @@
--- `bench_filter_block` is safe and ends: each piece lies within all four slices.
+-- `bench_filter_block` is safe and ends: each turn takes a piece, up to the end.
 use mathlib.Core.Path.{_≡_}
 use Prim.Native.Nat.{_≤_, _-_}
 use lib.ListN.{length}
@@ -7,8 +7,7 @@ use Rattle.bench_signal.proofs.bench_filter_block.Statement.{statement}
 use Rattle.bench_signal.proofs.bench_filter_block.Tie as tie
 
 abbrev Inv-loop : tie.InvT-loop
-Inv-loop re im out-re₀ out-im₀ n line₀ i₀ out-re out-im line i =
-    (i ≤ n) × (length out-re ≡ length out-re₀) × (length out-im ≡ length out-im₀)
+Inv-loop re im out-re₀ out-im₀ n line₀ i₀ out-re out-im line i = (i ≤ n) × (length out-re ≡ length out-re₀) × (length out-im ≡ length out-im₀)
 
 abbrev μ-loop : tie.MeasureT-loop
 μ-loop re im out-re₀ out-im₀ n line₀ i₀ out-re out-im line i = n - i
@@ -25,53 +24,17 @@ loop-holds c = search needs
 piece-end-requires : tie.Need-piece-end-requires Inv-loop μ-loop
 piece-end-requires c κs = search needs
 
-mul-block : tie.Need-mul-block Inv-loop μ-loop
-mul-block c = search needs
+part-requires : tie.Need-part-requires Inv-loop μ-loop
+part-requires c κs = search needs
 
-sub-block : tie.Need-sub-block Inv-loop μ-loop
-sub-block c = search needs
+part-requires-2 : tie.Need-part-requires-2 Inv-loop μ-loop
+part-requires-2 c κs = search needs
 
-part-block-start : tie.Need-part-block-start Inv-loop μ-loop
-part-block-start c = search needs
+rest-requires : tie.Need-rest-requires Inv-loop μ-loop
+rest-requires c κs = search needs
 
-part-block-end : tie.Need-part-block-end Inv-loop μ-loop
-part-block-end c = search needs
-
-mul-block-2 : tie.Need-mul-block-2 Inv-loop μ-loop
-mul-block-2 c = search needs
-
-sub-block-2 : tie.Need-sub-block-2 Inv-loop μ-loop
-sub-block-2 c = search needs
-
-part-block-start-2 : tie.Need-part-block-start-2 Inv-loop μ-loop
-part-block-start-2 c = search needs
-
-part-block-end-2 : tie.Need-part-block-end-2 Inv-loop μ-loop
-part-block-end-2 c = search needs
-
-mul-block-3 : tie.Need-mul-block-3 Inv-loop μ-loop
-mul-block-3 c = search needs
-
-sub-block-3 : tie.Need-sub-block-3 Inv-loop μ-loop
-sub-block-3 c = search needs
-
-part-block-start-3 : tie.Need-part-block-start-3 Inv-loop μ-loop
-part-block-start-3 c = search needs
-
-part-block-end-3 : tie.Need-part-block-end-3 Inv-loop μ-loop
-part-block-end-3 c = search needs
-
-mul-block-4 : tie.Need-mul-block-4 Inv-loop μ-loop
-mul-block-4 c = search needs
-
-sub-block-4 : tie.Need-sub-block-4 Inv-loop μ-loop
-sub-block-4 c = search needs
-
-part-block-start-4 : tie.Need-part-block-start-4 Inv-loop μ-loop
-part-block-start-4 c = search needs
-
-part-block-end-4 : tie.Need-part-block-end-4 Inv-loop μ-loop
-part-block-end-4 c = search needs
+rest-requires-2 : tie.Need-rest-requires-2 Inv-loop μ-loop
+rest-requires-2 c κs = search needs
 
 block-requires : tie.Need-block-requires Inv-loop μ-loop
 block-requires c κs = search needs
@@ -101,22 +64,10 @@ bench-filter-block-spec =
     new-requires
     loop-holds
     piece-end-requires
-    mul-block
-    sub-block
-    part-block-start
-    part-block-end
-    mul-block-2
-    sub-block-2
-    part-block-start-2
-    part-block-end-2
-    mul-block-3
-    sub-block-3
-    part-block-start-3
-    part-block-end-3
-    mul-block-4
-    sub-block-4
-    part-block-start-4
-    part-block-end-4
+    part-requires
+    part-requires-2
+    rest-requires
+    rest-requires-2
     block-requires
     loop-less
     loop-again

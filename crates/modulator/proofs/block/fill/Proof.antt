@@ -6,7 +6,8 @@ use native.Mathlib.Omega.{arith}
 use lib.ListN.{length, take}
 use Rattle.dsp_types.specs.declared.ComplexSample.{ComplexSample}
 use Rattle.fir.specs.Fir.{reOf, imOf}
-use Rattle.modulator.specs.Dqpsk.{phaseAfter, inputOf}
+use Rattle.mapper.specs.Dqpsk.{phaseAfter, inputOf}
+use Rattle.mapper.specs.Due.{placeIn}
 use Rattle.modulator.specs.Blocks.{placeDue, inputsOf, phasesOf}
 use Rattle.modulator.proofs.Filled.{part-start, part-turn, part-end, phase-start, phase-turn, phase-end}
 use borrow.Author.Needs.{needs}
@@ -39,6 +40,9 @@ loop-holds c =
 add-due-at : tie.Need-add-due-at Inv-loop μ-loop
 add-due-at c = search needs
 
+add-due-at-2 : tie.Need-add-due-at-2 Inv-loop μ-loop
+add-due-at-2 c = search needs
+
 due-at-requires : tie.Need-due-at-requires Inv-loop μ-loop
 due-at-requires c κs = search needs
 
@@ -67,7 +71,7 @@ loop-less : tie.Need-loop-less Inv-loop μ-loop
 loop-less c = search needs
 
 loop-again : tie.Need-loop-again Inv-loop μ-loop
-unfolding placeDue
+unfolding placeDue placeIn
 loop-again c =
     let l = c .before .before .before .before .loop in
     let a = c .before .before .before .before .before .before .before .before .args in
@@ -112,6 +116,7 @@ fill-spec =
     μ-loop
     loop-holds
     add-due-at
+    add-due-at-2
     due-at-requires
     phase-after-requires
     input-requires

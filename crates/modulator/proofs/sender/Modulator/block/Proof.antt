@@ -9,9 +9,10 @@ use mir.Syntax.{w64}
 use mir.Val.{SFits}
 use mir.ValLaws.{toZ-ofZ}
 use Rattle.dsp_types.specs.Refusals.{lastCounter, counters}
-use Rattle.modulator.specs.Sender.{Bits, startOf, inputRefusal, dueOf, refusalOf, senderOf}
+use Rattle.mapper.specs.Due.{startOf, inputRefusal, dueOf, refusalOf}
+use Rattle.modulator.specs.Sender.{senderOf}
 use Rattle.modulator.specs.Blocks.{dueAfter, blockCall, placeDue, fedBlock, leftOf}
-use Rattle.modulator.proofs.Places.{accepted-count, accepted-bits}
+use Rattle.mapper.proofs.Places.{accepted-count}
 use Rattle.modulator.proofs.Blocks.{none-sent, no-refusal, some-room, input-accepted, room-called, some-left, fed-count, filled, ended, count-within}
 use borrow.Author.Needs.{needs}
 use Rattle.modulator.proofs.sender.Modulator.block.Statement.{statement}
@@ -42,9 +43,6 @@ module _ (c : tie.After-unsigned) where
 
   small : c .unsigned .result ≤ lastCounter
   small = let a = c .before .before .before .before .before .before .args in rw sized (accepted-count (a .sample-counter .0) (a .slot .0) (a .has-bits) (a .bits .now) none .1)
-
-  bits-are : Bits (c .before .before .before .before .before .before .args .has-bits) (c .before .before .before .before .before .before .args .bits .now)
-  bits-are = let a = c .before .before .before .before .before .before .args in accepted-bits (a .sample-counter .0) (a .slot .0) (a .has-bits) (a .bits .now) none
 
   accepted : let a = c .before .before .before .before .before .before .args in inputRefusal (pos (c .unsigned .result)) (a .slot .0) (a .has-bits) (a .bits .now) ≡ 0
   accepted = let a = c .before .before .before .before .before .before .args in ap (λ (z : ℤ). inputRefusal z (a .slot .0) (a .has-bits) (a .bits .now)) (sym first-is) ∙ none
@@ -82,7 +80,7 @@ module _ (c : tie.After-left) where
 send-requires : tie.Need-send-requires
 send-requires c κs =
     let l = c .before .before in
-    (omega arith, omega (arith, within l, c .before .if2 .taken), bits-are (l .before .before))
+    (omega arith, omega (arith, within l, c .before .if2 .taken))
 
 same-length : tie.Need-same-length
 same-length c = search needs
@@ -109,7 +107,7 @@ end-refusal-requires c κs = within (c .before)
 send-requires-2 : tie.Need-send-requires-2
 send-requires-2 c κs =
     let l = c .before .before .before in
-    (omega (arith, c .before .before .if2 .left), within l, bits-are (l .before .before))
+    (omega (arith, c .before .before .if2 .left), within l)
 
 same-length-2 : tie.Need-same-length-2
 same-length-2 c = search needs

@@ -46,27 +46,27 @@ use Rattle.dsp_types.proofs.SampleCount as N
 use Rattle.dsp_types.proofs.SampleCount.Laws as N′
 use Rattle.dsp_types.proofs.TdmaTime as I
 use Rattle.dsp_types.proofs.TdmaTime.Laws as I′
-use Rattle.modulator.specs.Sender.{dueOf}
-use Rattle.modulator.specs.declared.due.Due.{Due}
-use Rattle.modulator.specs.declared.mapper.DqpskMapper.{DqpskMapper}
+use Rattle.mapper.specs.Due.{dueOf}
+use Rattle.mapper.specs.declared.Due.{Due}
+use Rattle.mapper.specs.declared.DqpskMapper.{DqpskMapper}
 use Rattle.modulator.specs.declared.sender.Modulator.{Modulator}
 use Rattle.modulator.specs.declared.sender.Sampled.{Sampled}
 use Rattle.modulator.proofs.Steps.{Stepped, Fed, Sent, sent}
-use Rattle.modulator.proofs.due.Due as D
-use Rattle.modulator.proofs.due.Due.Laws as D′
-use Rattle.modulator.proofs.mapper.DqpskMapper as T
+use Rattle.mapper.proofs.Due as D
+use Rattle.mapper.proofs.Due.Laws as D′
+use Rattle.mapper.proofs.DqpskMapper as T
 use Rattle.modulator.proofs.sender.Modulator as O
 use Rattle.modulator.proofs.sender.Modulator.Laws as O′
 use Rattle.modulator.proofs.sender.Sampled as R
 use Rattle.modulator.proofs.sender.Sampled.Laws as R′
-use Rattle.modulator.proofs.due.due_now as due-now
-use Rattle.modulator.proofs.due.due_now.Symbol as due-now-def
-use Rattle.modulator.proofs.due.due_now.Symbol.{name as #due-now}
-use Rattle.modulator.proofs.due.due_now.Met as due-now-thm
-use Rattle.modulator.proofs.mapper.DqpskMapper.symbol as symbol
-use Rattle.modulator.proofs.mapper.DqpskMapper.symbol.Symbol as symbol-def
-use Rattle.modulator.proofs.mapper.DqpskMapper.symbol.Symbol.{name as #symbol}
-use Rattle.modulator.proofs.mapper.DqpskMapper.symbol.Met as symbol-thm
+use Rattle.mapper.proofs.due_now as due-now
+use Rattle.mapper.proofs.due_now.Symbol as due-now-def
+use Rattle.mapper.proofs.due_now.Symbol.{name as #due-now}
+use Rattle.mapper.proofs.due_now.Met as due-now-thm
+use Rattle.mapper.proofs.DqpskMapper.symbol as symbol
+use Rattle.mapper.proofs.DqpskMapper.symbol.Symbol as symbol-def
+use Rattle.mapper.proofs.DqpskMapper.symbol.Symbol.{name as #symbol}
+use Rattle.mapper.proofs.DqpskMapper.symbol.Met as symbol-thm
 use Rattle.modulator.proofs.sender.Modulator.transmit as transmit
 use Rattle.modulator.proofs.sender.Modulator.transmit.Symbol as transmit-def
 use Rattle.modulator.proofs.sender.Modulator.transmit.Symbol.{name as #transmit}
@@ -263,6 +263,6 @@ sample-spec 𝓤 H 𝓜 𝓖 𝓡 =
     entered 𝓤 H (tripleOf 𝓤 H (𝓖 .A) sample.signature (sample.spec 𝓤 H (𝓖 .A) (𝓜 .mem) (𝓡 .run)))
     (tables 𝓤 H 𝓜 𝓡 code.env .C) (tables 𝓤 H 𝓜 𝓡 code.env .Λ) #sample code.function (code.unfolded 𝓤 H 𝓜 𝓡)
     (sample-meets 𝓤 H (𝓖 .A) (givenOf 𝓤 H 𝓜 𝓖) (𝓜 .mem) (𝓡 .run) (tablesOf 𝓤 H 𝓜 (tables 𝓤 H 𝓜 𝓡 code.env))
-    (cited 𝓤 H (DueNow 𝓤 H (𝓖 .A) (𝓜 .mem) (𝓡 .run)) 𝓜 𝓡 code.env #due-now due-now-def.routine code.calls-modulator·due·due-now (due-now-thm.met 𝓤 H 𝓜 𝓖 𝓡))
-    (cited 𝓤 H (Symbol 𝓤 H (𝓖 .A) (𝓜 .mem) (𝓡 .run)) 𝓜 𝓡 code.env #symbol symbol-def.routine code.calls-modulator·mapper·DqpskMapper·symbol (symbol-thm.met 𝓤 H 𝓜 𝓖 𝓡))
+    (cited 𝓤 H (DueNow 𝓤 H (𝓖 .A) (𝓜 .mem) (𝓡 .run)) 𝓜 𝓡 code.env #due-now due-now-def.routine code.calls-mapper·due-now (due-now-thm.met 𝓤 H 𝓜 𝓖 𝓡))
+    (cited 𝓤 H (Symbol 𝓤 H (𝓖 .A) (𝓜 .mem) (𝓡 .run)) 𝓜 𝓡 code.env #symbol symbol-def.routine code.calls-mapper·DqpskMapper·symbol (symbol-thm.met 𝓤 H 𝓜 𝓖 𝓡))
     (cited 𝓤 H (Transmit 𝓤 H (𝓖 .A) (𝓜 .mem) (𝓡 .run)) 𝓜 𝓡 code.env #transmit transmit-def.routine code.calls-modulator·sender·Modulator·transmit (transmit-thm.met 𝓤 H 𝓜 𝓖 𝓡)))

@@ -48,15 +48,15 @@ use Rattle.dsp_types.proofs.SampleCount as N
 use Rattle.dsp_types.proofs.SampleCount.Laws as N′
 use Rattle.dsp_types.proofs.TdmaTime as I
 use Rattle.dsp_types.proofs.TdmaTime.Laws as I′
-use Rattle.modulator.specs.Sender.{dueOf}
-use Rattle.modulator.specs.declared.due.Due.{Due}
-use Rattle.modulator.specs.declared.mapper.DqpskMapper.{DqpskMapper}
+use Rattle.mapper.specs.Due.{dueOf}
+use Rattle.mapper.specs.declared.Due.{Due}
+use Rattle.mapper.specs.declared.DqpskMapper.{DqpskMapper}
 use Rattle.modulator.specs.declared.sender.Modulator.{Modulator}
 use Rattle.modulator.specs.declared.sender.Sampled.{Sampled}
 use Rattle.modulator.specs.declared.sender.Stepped.{Stepped}
 use Rattle.modulator.proofs.Steps.{Sent, SentBeside, beside}
-use Rattle.modulator.proofs.mapper.DqpskMapper as T
-use Rattle.modulator.proofs.mapper.DqpskMapper.Laws as T′
+use Rattle.mapper.proofs.DqpskMapper as T
+use Rattle.mapper.proofs.DqpskMapper.Laws as T′
 use Rattle.modulator.proofs.sender.Modulator as O
 use Rattle.modulator.proofs.sender.Modulator.Laws as O′
 use Rattle.modulator.proofs.sender.Sampled as R

@@ -1,0 +1,2 @@
+pub mod Dqpsk
+pub mod Due
