@@ -1,10 +1,10 @@
 // The receiver's block call over all samples, with each slot taken at once.
-use demodulator::Mode;
-use demodulator::State;
-use demodulator::Stop;
-use demodulator::TakeAnswer;
 use dsp_types::SampleCount;
 use dsp_types::least;
+use receiver::State;
+use receiver::Stop;
+use slot_receiver::Mode;
+use slot_receiver::TakeAnswer;
 ghost use Prim.Native.Nat.{_/_, _<_};
 ghost use lib.ListN.{length};
 

@@ -4,14 +4,14 @@ use mathlib.Core.List.{[]}
 use Prim.Native.Nat.{ℕ, zero, suc}
 use native.Mathlib.Omega.{arith}
 use borrow.Author.Tests.{ne-eqb}
-use Rattle.demodulator.specs.declared.Mode.the-variants.{Idle, DlUnsynchronized, Dl, Ul}
-use Rattle.demodulator.specs.declared.take.TakeAnswer.{TakeAnswer}
-use Rattle.demodulator.specs.declared.take.TakeAnswer.the-variants as TakeAnswer
-use Rattle.demodulator.specs.declared.process.Answer.{Answer}
-use Rattle.demodulator.specs.declared.process.Answer.the-variants as Answer
-use Rattle.demodulator.specs.Receiver.{Receiver}
-use Rattle.demodulator.specs.Calls.{refused, unless, followRefusal, followed, followOutcome, replyOf, takeReplyOf}
-use Rattle.demodulator.specs.View.{modeOf}
+use Rattle.slot_receiver.specs.declared.Mode.the-variants.{Idle, DlUnsynchronized, Dl, Ul}
+use Rattle.slot_receiver.specs.declared.take.TakeAnswer.{TakeAnswer}
+use Rattle.slot_receiver.specs.declared.take.TakeAnswer.the-variants as TakeAnswer
+use Rattle.slot_receiver.specs.declared.Answer.{Answer}
+use Rattle.slot_receiver.specs.declared.Answer.the-variants as Answer
+use Rattle.slot_receiver.specs.Receiver.{Receiver}
+use Rattle.slot_receiver.specs.Calls.{refused, unless, followRefusal, followed, followOutcome, replyOf, takeReplyOf}
+use Rattle.slot_receiver.specs.View.{modeOf}
 use Rattle.modem.specs.Receive.{refusalOf}
 
 -- ---- a mode's number

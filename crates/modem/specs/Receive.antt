@@ -2,11 +2,11 @@
 use mathlib.Core.Bool.{Bool, true, false}
 use Prim.Native.Nat.{ℕ}
 use Rattle.dsp_types.specs.Refusals.{accepted}
-use Rattle.demodulator.specs.declared.RxBurst.{RxBurst}
-use Rattle.demodulator.specs.declared.RxSlot.{RxSlot}
-use Rattle.demodulator.specs.declared.feed.Stop.{Stop}
-use Rattle.demodulator.specs.declared.feed.Stop.the-variants as Stop
-use Rattle.demodulator.specs.Calls.{Reply, refused, done, took}
+use Rattle.rx_slot.specs.declared.RxBurst.{RxBurst}
+use Rattle.rx_slot.specs.declared.RxSlot.{RxSlot}
+use Rattle.receiver.specs.declared.feed.Stop.{Stop}
+use Rattle.receiver.specs.declared.feed.Stop.the-variants as Stop
+use Rattle.slot_receiver.specs.Calls.{Reply, refused, done, took}
 
 -- 01, "Refusals": the refusal's number, or 0
 unfoldable pub refusalOf : {Slot : Type 0} → Reply Slot → ℕ

@@ -12,7 +12,6 @@ mod session;
 mod stateless;
 
 use demodulator::Demodulator;
-use demodulator::Mode;
 use input::Input;
 use input::next_line;
 use output::Output;
@@ -20,6 +19,7 @@ use receivers::called;
 use receivers::leader;
 use receivers::serve;
 use session::Session;
+use slot_receiver::Mode;
 
 // The loop counts its turns down from a number that no run uses up: a proved loop has to end, and nothing says
 // that the input does.

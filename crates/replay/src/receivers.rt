@@ -12,13 +12,13 @@ use crate::field::is_sample;
 use crate::field::letter;
 use crate::field::number;
 use crate::input::Block;
-use demodulator::Answer;
 use demodulator::Demodulator;
-use demodulator::Mode;
-use demodulator::RxBurst;
-use demodulator::RxSlot;
-use demodulator::TakeAnswer;
 use dsp_types::least;
+use rx_slot::RxBurst;
+use rx_slot::RxSlot;
+use slot_receiver::Answer;
+use slot_receiver::Mode;
+use slot_receiver::TakeAnswer;
 use text::Text;
 ghost use Prim.Native.Nat.{_<_};
 

@@ -8,10 +8,11 @@ use lib.IntN.{ℤ, pos, _+ℤ_}
 use lib.ListN.{length}
 use lib.Ieee.{Float}
 use Rattle.dsp_types.specs.declared.ComplexSample.{ComplexSample}
-use Rattle.demodulator.specs.Receiver.{HandedSlot, Receiver}
-use Rattle.demodulator.specs.Windows.{handsOver}
-use Rattle.demodulator.specs.Calls.{Reply, refused, done, took, sampleOutcome}
-use Rattle.demodulator.specs.Feed.{interleaved, Block, fedOne, fedBy, feedOf}
+use Rattle.rx_slot.specs.Slots.{HandedSlot}
+use Rattle.slot_receiver.specs.Receiver.{Receiver}
+use Rattle.slot_receiver.specs.Windows.{handsOver}
+use Rattle.slot_receiver.specs.Calls.{Reply, refused, done, took, sampleOutcome}
+use Rattle.receiver.specs.Feed.{interleaved, Block, fedOne, fedBy, feedOf}
 
 one-more : (handed : Bool) (after : Receiver) (others : Block) (n : ℕ) → others .taken ≤ n → fedOne handed after others .taken ≤ suc n
 unfolding fedOne

@@ -1,14 +1,14 @@
 // A receiver of the downlink, and what it has told.
 use crate::line::slot_line;
 use crate::options::Options;
-use demodulator::Mode;
-use demodulator::State;
-use demodulator::Stop;
-use demodulator::TakeAnswer;
 use dsp_types::COUNTERS;
 use dsp_types::SampleCount;
 use libc::STDERR_FILENO;
 use libc::STDOUT_FILENO;
+use receiver::State;
+use receiver::Stop;
+use slot_receiver::Mode;
+use slot_receiver::TakeAnswer;
 use text::Text;
 ghost use Prim.Native.Nat.{_/_, _<_, _≤_};
 ghost use lib.ListN.{length};

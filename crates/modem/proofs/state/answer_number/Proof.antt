@@ -1,9 +1,9 @@
--- `receiver::answer_number` meets its contract, case by case.
-use Rattle.demodulator.specs.Calls.{replyOf}
+-- `state::answer_number` meets its contract, case by case.
+use Rattle.slot_receiver.specs.Calls.{replyOf}
 use Rattle.modem.specs.Receive.{refusalOf}
 use borrow.Author.Needs.{needs}
-use Rattle.modem.proofs.receiver.answer_number.Statement.{statement}
-use Rattle.modem.proofs.receiver.answer_number.Tie as tie
+use Rattle.modem.proofs.state.answer_number.Statement.{statement}
+use Rattle.modem.proofs.state.answer_number.Tie as tie
 
 enum-told : tie.Need-enum-told
 enum-told c = search needs

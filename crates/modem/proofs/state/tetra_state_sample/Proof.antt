@@ -1,15 +1,15 @@
--- `receiver::tetra_state_sample` meets its contract, by `State::sample`.
+-- `state::tetra_state_sample` meets its contract, by `State::sample`.
 use mathlib.Core.Path.{_≡_, sym, ap, _∙_}
 use lib.IntN.{ℤ}
 use mir.Syntax.{w64}
 use mir.ValLaws.{toZ-ofZ}
 use Rattle.dsp_types.specs.declared.ComplexSample.{ComplexSample}
-use Rattle.demodulator.specs.Calls.{sampleOutcome}
-use Rattle.demodulator.specs.View.{receiverOf}
+use Rattle.slot_receiver.specs.Calls.{sampleOutcome}
+use Rattle.receiver.specs.View.{receiverOf}
 use Rattle.modem.specs.Receive.{refusalOf}
 use Rattle.modem.proofs.Receiving.{by-refusal}
-use Rattle.modem.proofs.receiver.tetra_state_sample.Statement.{statement}
-use Rattle.modem.proofs.receiver.tetra_state_sample.Tie as tie
+use Rattle.modem.proofs.state.tetra_state_sample.Statement.{statement}
+use Rattle.modem.proofs.state.tetra_state_sample.Tie as tie
 
 sample-requires : tie.Need-sample-requires
 sample-requires c κs = tt

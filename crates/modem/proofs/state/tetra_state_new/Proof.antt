@@ -1,6 +1,6 @@
--- `receiver::tetra_state_new` meets its contract, by `State::new`.
-use Rattle.modem.proofs.receiver.tetra_state_new.Statement.{statement}
-use Rattle.modem.proofs.receiver.tetra_state_new.Tie as tie
+-- `state::tetra_state_new` meets its contract, by `State::new`.
+use Rattle.modem.proofs.state.tetra_state_new.Statement.{statement}
+use Rattle.modem.proofs.state.tetra_state_new.Tie as tie
 
 mode-of-requires : tie.Need-mode-of-requires
 mode-of-requires c κs = tt

@@ -1,10 +1,10 @@
--- `receiver::tetra_state_take` meets its contract, by `State::take_demodulated_slot`.
+-- `state::tetra_state_take` meets its contract, by `State::take_demodulated_slot`.
 use mathlib.Core.Path.{ap, _∙_}
 use Rattle.modem.specs.Receive.{refusalOf, slotOf}
 use Rattle.modem.proofs.Receiving.{by-take-refusal}
 use borrow.Author.Needs.{needs}
-use Rattle.modem.proofs.receiver.tetra_state_take.Statement.{statement}
-use Rattle.modem.proofs.receiver.tetra_state_take.Tie as tie
+use Rattle.modem.proofs.state.tetra_state_take.Statement.{statement}
+use Rattle.modem.proofs.state.tetra_state_take.Tie as tie
 
 take-demodulated-slot-requires : tie.Need-take-demodulated-slot-requires
 take-demodulated-slot-requires c κs = tt

@@ -1,11 +1,11 @@
--- `receiver::tetra_state_follow` meets its contract, by `State::sync_to_demodulator`.
+-- `state::tetra_state_follow` meets its contract, by `State::sync_to_demodulator`.
 use mathlib.Core.Path.{ap, sym, _∙_}
 use mathlib.Core.List.{[]}
-use Rattle.demodulator.specs.View.{receiverOf}
+use Rattle.receiver.specs.View.{receiverOf}
 use Rattle.modem.specs.Receive.{refusalOf}
 use Rattle.modem.proofs.Receiving.{by-refusal, followed-on}
-use Rattle.modem.proofs.receiver.tetra_state_follow.Statement.{statement}
-use Rattle.modem.proofs.receiver.tetra_state_follow.Tie as tie
+use Rattle.modem.proofs.state.tetra_state_follow.Statement.{statement}
+use Rattle.modem.proofs.state.tetra_state_follow.Tie as tie
 
 sync-to-demodulator-requires : tie.Need-sync-to-demodulator-requires
 sync-to-demodulator-requires c κs = tt

@@ -1,10 +1,10 @@
--- `receiver::take_number` meets its contract, case by case.
+-- `state::take_number` meets its contract, case by case.
 use mathlib.Core.Path.{_≡_}
-use Rattle.demodulator.specs.Calls.{takeReplyOf}
+use Rattle.slot_receiver.specs.Calls.{takeReplyOf}
 use Rattle.modem.specs.Receive.{refusalOf}
 use borrow.Author.Needs.{needs}
-use Rattle.modem.proofs.receiver.take_number.Statement.{statement}
-use Rattle.modem.proofs.receiver.take_number.Tie as tie
+use Rattle.modem.proofs.state.take_number.Statement.{statement}
+use Rattle.modem.proofs.state.take_number.Tie as tie
 
 enum-told : tie.Need-enum-told
 enum-told c = search needs

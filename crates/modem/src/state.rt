@@ -1,25 +1,26 @@
 // The receiver: its state goes in by value and the next one comes back, and its past is lent. The header's calls on a
 // receiver in the caller's memory are these.
-use demodulator::Answer;
-use demodulator::Mode;
-use demodulator::RxBurst;
-use demodulator::RxSlot;
-use demodulator::State;
-use demodulator::Stop;
-use demodulator::TakeAnswer;
 use dsp_types::ACCEPTED;
 use dsp_types::ComplexSample;
 use dsp_types::SampleCount;
 use dsp_types::TdmaTime;
+use receiver::State;
+use receiver::Stop;
+use rx_slot::RxBurst;
+use rx_slot::RxSlot;
+use slot_receiver::Answer;
+use slot_receiver::Mode;
+use slot_receiver::TakeAnswer;
 ghost use mathlib.Core.Path.{_≡_};
 ghost use mathlib.Core.List.{List, [], _∷_};
 ghost use lib.ListN.{replicate};
 ghost use lib.Ieee.{Float};
 ghost use Rattle.dsp_types.specs.Samples.{zeroF};
-ghost use Rattle.demodulator.specs.Receiver.{new};
-ghost use Rattle.demodulator.specs.Calls.{sampleOutcome, takeOutcome, followOutcome, replyOf, takeReplyOf, inNumbers};
-ghost use Rattle.demodulator.specs.Feed.{interleaved, feedOf};
-ghost use Rattle.demodulator.specs.View.{modeOf, modeNumber, modeFollowing, receiverOf, Untouched};
+ghost use Rattle.slot_receiver.specs.Receiver.{new};
+ghost use Rattle.slot_receiver.specs.Calls.{sampleOutcome, takeOutcome, followOutcome, replyOf, takeReplyOf, inNumbers};
+ghost use Rattle.receiver.specs.Feed.{interleaved, feedOf};
+ghost use Rattle.slot_receiver.specs.View.{modeOf, modeNumber, modeFollowing};
+ghost use Rattle.receiver.specs.View.{receiverOf, Untouched};
 ghost use Rattle.modem.specs.Receive.{refusalOf, slotOf, noSlot, handsSlot, stopRefusal};
 
 // 0 or the refusal's number, and the next state.
@@ -128,7 +129,7 @@ fn stop_refusal(stop: Stop) -> u32
 #[no_mangle]
 pub extern "C" fn tetra_state_new(mode: u32) -> State
     ensures receiver { λ r. ⌜ receiverOf r (replicate 2048 zeroF) (replicate 2048 zeroF) (replicate 2048 zeroF) ≡ new (modeOf mode) ⌝ }
-    ensures mode { λ r. ⌜ r .mode ≡ modeNumber (modeOf mode) ⌝ }
+    ensures mode { λ r. ⌜ r .slots .mode ≡ modeNumber (modeOf mode) ⌝ }
 {
     State::new(mode_of(mode))
 }
@@ -216,7 +217,7 @@ pub extern "C" fn tetra_state_take(
 pub extern "C" fn tetra_state_follow(state: State, other: State) -> TetraAnswered
     ensures refusal { λ r. ⌜ ((re im abs re₂ im₂ abs₂ : List Float) → r .refusal ≡ refusalOf (followOutcome (receiverOf state re im abs) (receiverOf other re₂ im₂ abs₂) .reply)) ⌝ }
     ensures receiver { λ r. ⌜ ((re im abs re₂ im₂ abs₂ : List Float) → receiverOf (r .state) re im abs ≡ followOutcome (receiverOf state re im abs) (receiverOf other re₂ im₂ abs₂) .receiver) ⌝ }
-    ensures mode { λ r. ⌜ (r .refusal ≡ 0 → r .state .mode ≡ modeFollowing (modeOf (other .mode)) (state .mode)) ⌝ }
+    ensures mode { λ r. ⌜ (r .refusal ≡ 0 → r .state .slots .mode ≡ modeFollowing (modeOf (other .slots .mode)) (state .slots .mode)) ⌝ }
     ensures refused { λ r. ⌜ ((r .refusal ≡ 0 → ⊥) → r .state ≡ state) ⌝ }
 {
     let followed = state.sync_to_demodulator(other);

@@ -1,7 +1,7 @@
--- `receiver::mode_of` meets its contract, number by number.
+-- `state::mode_of` meets its contract, number by number.
 use Rattle.modem.proofs.Receiving.{mode-idle, mode-search, mode-downlink, mode-uplink}
-use Rattle.modem.proofs.receiver.mode_of.Statement.{statement}
-use Rattle.modem.proofs.receiver.mode_of.Tie as tie
+use Rattle.modem.proofs.state.mode_of.Statement.{statement}
+use Rattle.modem.proofs.state.mode_of.Tie as tie
 
 returns : tie.Need-returns
 returns c = mode-search _ (c .match .keys1)

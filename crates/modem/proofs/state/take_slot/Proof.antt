@@ -1,10 +1,10 @@
--- `receiver::take_slot` meets its contract, case by case.
+-- `state::take_slot` meets its contract, case by case.
 use mathlib.Core.Path.{_≡_}
-use Rattle.demodulator.specs.Calls.{takeReplyOf}
+use Rattle.slot_receiver.specs.Calls.{takeReplyOf}
 use Rattle.modem.specs.Receive.{slotOf}
 use borrow.Author.Needs.{needs}
-use Rattle.modem.proofs.receiver.take_slot.Statement.{statement}
-use Rattle.modem.proofs.receiver.take_slot.Tie as tie
+use Rattle.modem.proofs.state.take_slot.Statement.{statement}
+use Rattle.modem.proofs.state.take_slot.Tie as tie
 
 enum-known-answer : tie.Need-enum-known-answer
 enum-known-answer c = search needs

@@ -1,13 +1,13 @@
--- `receiver::tetra_state_feed` meets its contract, by `State::feed`.
+-- `state::tetra_state_feed` meets its contract, by `State::feed`.
 use mathlib.Core.Path.{ap, _∙_}
 use lib.IntN.{ℤ}
 use mir.Syntax.{w64}
 use mir.ValLaws.{toZ-ofZ}
-use Rattle.demodulator.specs.Feed.{interleaved, feedOf}
-use Rattle.demodulator.specs.View.{receiverOf}
+use Rattle.receiver.specs.Feed.{interleaved, feedOf}
+use Rattle.receiver.specs.View.{receiverOf}
 use Rattle.modem.specs.Receive.{handsSlot, stopRefusal}
-use Rattle.modem.proofs.receiver.tetra_state_feed.Statement.{statement}
-use Rattle.modem.proofs.receiver.tetra_state_feed.Tie as tie
+use Rattle.modem.proofs.state.tetra_state_feed.Statement.{statement}
+use Rattle.modem.proofs.state.tetra_state_feed.Tie as tie
 
 feed-requires : tie.Need-feed-requires
 feed-requires c κs = tt
