@@ -1,5 +1,5 @@
-// The mapper (modulator.rs): symbols to constellation points, each a step of phase from the last; and what is due in a call
-// of the sender.
+// The mapper (modulator.rs): symbols to constellation points, each a step of phase from the last. And what is due in a
+// call of the sender.
 mod slot;
 
 use dsp_types::ComplexSample;
