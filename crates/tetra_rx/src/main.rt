@@ -1,7 +1,7 @@
 // Receives a downlink: raw samples (`.cf32`) from standard input, a line for each slot to standard output.
-mod line;
 mod listener;
 mod options;
+mod tally;
 
 use libc::STDERR_FILENO;
 use libc::STDIN_FILENO;
@@ -115,7 +115,7 @@ fn receive(options: Options) {
     let mut listener = Listener::new();
     let mut held: usize = 0;
     let mut turns = u64::MAX;
-    while turns > 0 && listener.is_open {
+    while turns > 0 && listener.tally.is_open {
         turns -= 1;
         let len = fill(&mut block, held);
         if len == held {
