@@ -13,8 +13,13 @@ pub struct Tally {
     pub is_open: bool,
 }
 
+// The text with words and a number behind it.
+fn with_number(text: Text, words: &[u8], n: u64) -> Text {
+    text.append(words).decimal(n)
+}
+
 // The text with a downlink receiver's mode behind it.
-fn mode_name(text: Text, mode: u8) -> Text {
+fn with_mode(text: Text, mode: u8) -> Text {
     if mode == 2 {
         text.append(b"locked")
     } else {
@@ -22,23 +27,31 @@ fn mode_name(text: Text, mode: u8) -> Text {
     }
 }
 
+// Reports the text, with these words behind it.
+fn report(text: Text, words: &[u8]) {
+    text.append(words).print(STDERR_FILENO);
+}
+
 // A step goes on behind the window that locked, up to the first slot: the change came before this sample.
 pub(crate) fn tell_mode(mode: u8, counter: u64) {
-    mode_name(Text::new().append(b"tetra_rx: "), mode)
-        .append(b" by sample ")
-        .decimal(counter)
-        .append(b"\n")
-        .print(STDERR_FILENO);
+    let named = with_mode(Text::new().append(b"tetra_rx: "), mode);
+    report(with_number(named, b" by sample ", counter), b"\n");
 }
 
 fn tell_refused(number: u32, counter: u64) {
-    Text::new()
-        .append(b"tetra_rx: sample ")
-        .decimal(counter)
-        .append(b" refused=")
-        .decimal(number as u64)
-        .append(b", taken as missing; more such are counted\n")
-        .print(STDERR_FILENO);
+    let sample = with_number(Text::new(), b"tetra_rx: sample ", counter);
+    report(
+        with_number(sample, b" refused=", number as u64),
+        b", taken as missing; more such are counted\n",
+    );
+}
+
+// The bytes of half a sample are told.
+pub(crate) fn tell_rest(held: usize) {
+    report(
+        with_number(Text::new(), b"tetra_rx: the last ", held as u64),
+        b" bytes are no whole sample\n",
+    );
 }
 
 impl Tally {
@@ -111,14 +124,12 @@ impl Tally {
 
     // Tells the whole run, and the mode that the receiver is in.
     pub(crate) fn summary(self, mode: u8) {
-        let counts = Text::new()
-            .append(b"tetra_rx: ")
-            .decimal(self.counter)
-            .append(b" samples, ")
-            .decimal(self.slots)
-            .append(b" slots, ")
-            .decimal(self.refused)
-            .append(b" samples refused, ");
-        mode_name(counts, mode).append(b"\n").print(STDERR_FILENO);
+        let samples = with_number(Text::new(), b"tetra_rx: ", self.counter);
+        let slots = with_number(samples, b" samples, ", self.slots);
+        let refused = with_number(slots, b" slots, ", self.refused);
+        report(
+            with_mode(refused.append(b" samples refused, "), mode),
+            b"\n",
+        );
     }
 }
