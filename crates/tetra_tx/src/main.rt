@@ -8,7 +8,7 @@ use sender::Sender;
 
 type Block = [u8; 65536];
 
-// What is kept of a line. A burst's line is shorter, so a longer one is refused for its length all the same.
+// What is kept of a line (`block_text::push`).
 type Line = [u8; 512];
 
 // The sender, and the length of the line that is not yet whole.
@@ -51,16 +51,6 @@ fn explain() {
     }
 }
 
-// Adds a byte to a line of that length, and gives the length after it.
-fn push(line: &mut Line, len: usize, byte: u8) -> usize {
-    if len < 512 {
-        line[len] = byte;
-        len + 1
-    } else {
-        len
-    }
-}
-
 // Sends the slot of a line of that length.
 fn send_line(sender: Sender, line: &Line, len: usize) -> Sender {
     sender.line(text::trimmed(text::front(line, len), b'\r'))
@@ -76,7 +66,7 @@ fn send_lines(lines: Lines, line: &mut Line, bytes: &[u8]) -> Lines {
             sender = send_line(sender, &*line, len);
             len = 0;
         } else {
-            len = push(line, len, byte);
+            len = block_text::push(line, len, byte);
         }
     }
     Lines { sender, len }
