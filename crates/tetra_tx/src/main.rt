@@ -1,5 +1,6 @@
 // Sends bursts: a line of standard input for each slot, raw samples (`.cf32`) to standard output.
 mod sender;
+mod slot;
 
 use libc::STDERR_FILENO;
 use libc::STDIN_FILENO;
@@ -72,6 +73,16 @@ fn send_lines(lines: Lines, line: &mut Line, bytes: &[u8]) -> Lines {
     Lines { sender, len }
 }
 
+// Sends the slot of the last line, where no newline ends it, and one without a burst.
+fn finish(lines: Lines, line: &Line) {
+    let sender = lines.sender;
+    if lines.len > 0 {
+        send_line(sender, line, lines.len).silence();
+    } else {
+        sender.silence();
+    }
+}
+
 // Reads the next block. It has no bytes at the end of the input.
 fn read_block(block: &mut Block) -> usize {
     let got = libc::read(STDIN_FILENO, block);
@@ -86,16 +97,11 @@ fn send_block(lines: Lines, line: &mut Line, block: &Block, len: usize) -> Lines
 }
 
 // A proved loop has to end, and nothing says that an input does: it counts down from a number that no run uses up.
-fn main() {
-    if os::arg_count() > 1 {
-        explain();
-        return;
-    }
+fn send_all() {
     let mut block = [0u8; 65536];
     let mut line = [0u8; 512];
-    let new = Sender::new();
     let mut lines = Lines {
-        sender: new,
+        sender: Sender::new(),
         len: 0,
     };
     let mut turns = u64::MAX;
@@ -107,9 +113,13 @@ fn main() {
         }
         lines = send_block(lines, &mut line, &block, n);
     }
-    let mut sender = lines.sender;
-    if lines.len > 0 {
-        sender = send_line(sender, &line, lines.len);
+    finish(lines, &line);
+}
+
+fn main() {
+    if os::arg_count() > 1 {
+        explain();
+    } else {
+        send_all();
     }
-    sender.silence();
 }
