@@ -117,7 +117,7 @@ module _ (hasBits : Bool) (r : Receiver) (xs : List ComplexSample) (c : ℤ) {n 
   unfolding stepOf stepBy
   at-refused m s g l = rw (← s, g, ← e, ← f, l, add-one n)
 
-  pub at-slot : {stop : Stop} {left : Receiver} → stop ≡ feedOf r xs c .stop → stop ≡ Slot → line ≡ lineOf hasBits (takeNext after .reply) → left ≡ takeNext after .receiver
-      → record { taken = n; stop = Slot; line = line; receiver = left } ≡ stepOf hasBits r xs c
+  pub at-slot : {stop made : Stop} {m : ℕ} {left : Receiver} → stop ≡ feedOf r xs c .stop → stop ≡ Slot → m ≡ n → made ≡ Slot → line ≡ lineOf hasBits (takeNext after .reply)
+      → left ≡ takeNext after .receiver → record { taken = m; stop = made; line = line; receiver = left } ≡ stepOf hasBits r xs c
   unfolding stepOf stepBy
-  at-slot s g l t = rw (← s, g, ← e, ← f, l, t)
+  at-slot s g k w l t = rw (← s, g, k, w, ← e, ← f, l, t)

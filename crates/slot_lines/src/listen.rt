@@ -11,6 +11,7 @@ ghost use Prim.Native.Nat.{_/_, _<_, _≤_};
 ghost use lib.ListN.{length};
 ghost use lib.Ieee.{Float};
 ghost use Rattle.text.specs.Text.{textOf};
+ghost use Rattle.demodulator.specs.declared.feed.Stop.the-variants as Stop;
 ghost use Rattle.demodulator.specs.Feed.{interleaved};
 ghost use Rattle.demodulator.specs.View.{receiverOf};
 ghost use Rattle.slot_lines.specs.Blocks.{takeNext, lineOf, printed, stepOf, fromStep, stepMade};
@@ -23,40 +24,39 @@ pub struct Heard {
     pub state: State,
 }
 
-// The line of a slot that was taken, and the receiver after it.
-struct TakenLine {
-    line: Text,
-    state: State,
-}
-
-// Takes the slot that waits.
-fn take_line(state: State, has_bits: bool) -> TakenLine
+// Takes the slot that waits behind so many samples.
+fn take_line(taken: usize, state: State, has_bits: bool) -> Heard
+    ensures stop { λ r. ⌜ (r .taken ≡ taken) × (r .stop ≡ Stop.Slot) ⌝ }
     ensures line { λ r. ⌜ ((re im abs : List Float) → textOf (r .line) ≡ lineOf «has_bits» (takeNext (receiverOf state re im abs) .reply)) ⌝ }
     ensures receiver { λ r. ⌜ ((re im abs : List Float) → receiverOf (r .state) re im abs ≡ takeNext (receiverOf state re im abs) .receiver) ⌝ }
 {
     let mut slot = [0u8; 510];
     let mut subslot1 = [0u8; 254];
     let mut subslot2 = [0u8; 254];
-    let taken = state.take_demodulated_slot(&mut slot, &mut subslot1, &mut subslot2);
-    let answer = taken.answer;
-    let after = taken.state;
+    let given = state.take_demodulated_slot(&mut slot, &mut subslot1, &mut subslot2);
+    let answer = given.answer;
+    let left = given.state;
     match answer {
-        TakeAnswer::Slot(told) => {
-            let bits = text::front(&slot, told.full.burst_len);
-            TakenLine {
+        TakeAnswer::Slot(handed) => {
+            let bits = text::front(&slot, handed.full.burst_len);
+            Heard {
+                taken,
+                stop: Stop::Slot,
                 line: slot_line(
-                    told.time.0,
-                    told.full.train_type,
-                    told.full.train_errs,
+                    handed.time.0,
+                    handed.full.train_type,
+                    handed.full.train_errs,
                     has_bits,
                     bits,
                 ),
-                state: after,
+                state: left,
             }
         }
-        TakeAnswer::Refused(_) => TakenLine {
+        TakeAnswer::Refused(_) => Heard {
+            taken,
+            stop: Stop::Slot,
             line: Text::new(),
-            state: after,
+            state: left,
         },
     }
 }
@@ -87,17 +87,7 @@ pub fn hear(
             line: Text::new(),
             state: after,
         },
-        Stop::Slot => {
-            let next = take_line(after, has_bits);
-            let line = next.line;
-            let left = next.state;
-            Heard {
-                taken,
-                stop: Stop::Slot,
-                line,
-                state: left,
-            }
-        }
+        Stop::Slot => take_line(taken, after, has_bits),
         Stop::Refused(number) => Heard {
             taken: taken + 1,
             stop: Stop::Refused(number),

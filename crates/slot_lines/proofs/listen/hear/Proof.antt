@@ -11,8 +11,8 @@ use Rattle.slot_lines.proofs.listen.hear.Tie as tie
 long : (c : tie.After-shared-slice-known) → length (c .before .args .samples .now) / 2 < 2 ^ 63
 long c = search needs
 
-add-t23 : tie.Need-add-t23
-add-t23 c =
+add-t19 : tie.Need-add-t19
+add-t19 c =
     let f = c .before .before .before .before in
     let s = f .before .before .before .before in
     record { fits = omega (arith, fed-within _ (s .before .args .samples .now) _ (f .feed .ensures .0), long s) }
@@ -28,12 +28,12 @@ returns c =
 returns-2 : tie.Need-returns-2
 unfolding stepMade
 returns-2 c =
-    let t = c .before .before in
-    let f = t .before .before .before .before in
+    let f = c .before .before .before .before in
     let a = f .before .before .before .before .before .args in
     let e = f .feed .ensures in
+    let t = c .take-line .ensures in
     hears (a .has-bits) _ (a .samples .now) (a .first .0)
-    (at-slot (a .has-bits) _ _ _ (e .0) (e .1 .1 .0) (e .1 .0) (t .before .enum-told2 .given .1) (t .take-line .ensures .0 _ _ _) (t .take-line .ensures .1 _ _ _))
+    (at-slot (a .has-bits) _ _ _ (e .0) (e .1 .1 .0) (e .1 .0) (c .before .enum-told2 .given .1) (t .0 .0) (t .0 .1) (t .1 .0 _ _ _) (t .1 .1 _ _ _))
 
 returns-3 : tie.Need-returns-3
 unfolding stepMade
@@ -54,7 +54,7 @@ hear-spec =
     (λ c. search needs)
     (λ c κs. search needs)
     (λ c. search needs)
-    add-t23
+    add-t19
     (λ c κs. search needs)
     returns
     returns-2
