@@ -4,8 +4,10 @@ use mathlib.Core.Bool.{Bool, true, false, cond, _&&_, _||_}
 use mathlib.Core.List.{List, [], _∷_}
 use lib.Dec.{eqb}
 use lib.ListN.{length, drop}
-use Rattle.text.specs.Text.{ascii}
+use Rattle.text.specs.Text.{ascii, trimmed}
+use Rattle.slotter.specs.Bursts.{Told}
 use Rattle.block_text.specs.declared.line.Asked.{Asked}
+use Rattle.block_text.specs.BlockText.{answerOf}
 use Rattle.block_text.specs.declared.line.Asked.the-variants.{Nothing, Empty, Burst, Unknown}
 
 -- no slot, one without a burst, a burst of a type from its blocks' characters, or what is reported and sent without a burst
@@ -35,3 +37,18 @@ asked line =
     (cond (startsWith (ascii "normal1 ") line) (burst 1 (drop 8 line))
     (cond (startsWith (ascii "normal2 ") line) (burst 2 (drop 8 line))
     (cond (startsWith (ascii "empty") line && eqb (length line) 5) silence unknown))))
+
+-- what a wish comes to: the blocks of a burst are answered
+pub data Sent : Type 0 where
+  passed quiet reported : Sent
+  answered : ℕ → Told → Sent
+
+unfoldable pub sentFor : Wish → Sent
+sentFor none = passed
+sentFor silence = quiet
+sentFor (burst type characters) = answered type (answerOf type characters)
+sentFor unknown = reported
+
+-- what a line comes to, of which one closing carriage return is dropped
+unfoldable pub sentOf : List ℕ → Sent
+sentOf line = sentFor (asked (trimmed 13 line))

@@ -7,6 +7,7 @@ use dsp_types::BAD_LENGTH;
 use dsp_types::BAD_TRAINING;
 pub use line::Asked;
 pub use line::behind;
+pub use line::push;
 pub use line::read;
 use slotter::Answer;
 use slotter::Burst;

@@ -1,7 +1,9 @@
 // A line that asks for a slot: a burst's type and its blocks, or none.
 ghost use mathlib.Core.Path.{_≡_};
-ghost use lib.ListN.{drop};
-ghost use Rattle.block_text.specs.Lines.{startsWith, askedOf, asked};
+ghost use mathlib.Core.List.{List, _∷_, _++_};
+ghost use Prim.Native.Nat.{ℕ};
+ghost use lib.ListN.{length, take, drop};
+ghost use Rattle.block_text.specs.Lines.{startsWith, askedOf, asked, sentOf};
 
 pub enum Asked {
     // An empty line, or a remark.
@@ -56,4 +58,25 @@ pub fn read(line: &[u8]) -> Asked
     } else {
         Asked::Unknown
     }
+}
+
+// `push`, on the bytes as a slice.
+fn push_in(line: &mut [u8], len: usize, byte: u8) -> usize
+    requires { ⌜ length (now line) ≡ 512 ⌝ }
+    ensures { λ r. ⌜ ((t : List ℕ) → sentOf (take r (now (line .exit)) ++ t) ≡ sentOf (take len (now (line .entry)) ++ (byte ∷ t))) ⌝ }
+{
+    if len < 512 {
+        line[len] = byte;
+        len + 1
+    } else {
+        len
+    }
+}
+
+// Adds a byte to a line of which the first len bytes are kept, and tells how many are kept then: 512 at most. What the line
+// comes to is the same, whatever follows: a longer one is of no burst, or refused for its length.
+pub fn push(line: &mut [u8; 512], len: usize, byte: u8) -> usize
+    ensures { λ r. ⌜ ((t : List ℕ) → sentOf (take r (now (line .exit)) ++ t) ≡ sentOf (take len (now (line .entry)) ++ (byte ∷ t))) ⌝ }
+{
+    push_in(line, len, byte)
 }

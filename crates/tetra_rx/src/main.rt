@@ -1,14 +1,13 @@
 // Receives a downlink: raw samples (`.cf32`) from standard input, a line for each slot to standard output.
-mod line;
 mod listener;
 mod options;
+mod tally;
 
 use libc::STDERR_FILENO;
 use libc::STDIN_FILENO;
 use libc::STDOUT_FILENO;
 use listener::Listener;
 use options::Options;
-use text::Text;
 ghost use Prim.Native.Nat.{_≤_};
 
 type Block = [u8; 65536];
@@ -35,12 +34,22 @@ first, the carrier at 0 Hz, no part beyond 1024.
     );
 }
 
+// The samples that the block's first bytes hold are decoded. Tells how many parts they have.
+fn decode(block: &Block, len: usize, parts: &mut Parts) -> usize {
+    cf32::decode(text::front(block, len), parts)
+}
+
 fn front_parts(parts: &[f32], len: usize) -> &[f32] {
     if len < parts.len() {
         &parts[..len]
     } else {
         parts
     }
+}
+
+// The same of all parts, since a part of an array behind a reference cannot be lent.
+fn decoded(parts: &Parts, len: usize) -> &[f32] {
+    front_parts(parts, len)
 }
 
 // Reads on behind the bytes that are held, and tells how many there are then: no more at the end of the input.
@@ -58,21 +67,6 @@ fn read_on(block: &mut [u8], held: usize) -> usize {
 // The same for the whole block, since a part of an array behind a reference cannot be lent.
 fn fill(block: &mut Block, held: usize) -> usize {
     read_on(block, held)
-}
-
-// Hears the samples that the block's first bytes hold.
-fn hear_block(
-    listener: Listener,
-    re: &mut [f32; 2048],
-    im: &mut [f32; 2048],
-    abs: &mut [f32; 2048],
-    block: &Block,
-    len: usize,
-    parts: &mut Parts,
-    options: Options,
-) -> Listener {
-    let n = cf32::decode(text::front(block, len), parts);
-    listener.hear(re, im, abs, front_parts(&*parts, n), options)
 }
 
 fn at_most_65536(n: usize) -> usize
@@ -94,11 +88,7 @@ fn keep_rest(block: &mut Block, len: usize) -> usize {
 // What is told at the end: the bytes of half a sample, and the summary.
 fn finish(listener: Listener, held: usize, options: Options) {
     if held > 0 {
-        Text::new()
-            .append(b"tetra_rx: the last ")
-            .decimal(held as u64)
-            .append(b" bytes are no whole sample\n")
-            .print(STDERR_FILENO);
+        tally::tell_rest(held);
     }
     if !options.is_quiet {
         listener.summary();
@@ -115,22 +105,14 @@ fn receive(options: Options) {
     let mut listener = Listener::new();
     let mut held: usize = 0;
     let mut turns = u64::MAX;
-    while turns > 0 && listener.is_open {
+    while turns > 0 && listener.tally.is_open {
         turns -= 1;
         let len = fill(&mut block, held);
         if len == held {
             break;
         }
-        listener = hear_block(
-            listener,
-            &mut re,
-            &mut im,
-            &mut abs,
-            &block,
-            len,
-            &mut parts,
-            options,
-        );
+        let n = decode(&block, len, &mut parts);
+        listener = listener.hear(&mut re, &mut im, &mut abs, decoded(&parts, n), options);
         held = keep_rest(&mut block, len);
     }
     finish(listener, held, options);

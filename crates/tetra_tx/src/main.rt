@@ -1,5 +1,6 @@
 // Sends bursts: a line of standard input for each slot, raw samples (`.cf32`) to standard output.
 mod sender;
+mod slot;
 
 use libc::STDERR_FILENO;
 use libc::STDIN_FILENO;
@@ -8,7 +9,7 @@ use sender::Sender;
 
 type Block = [u8; 65536];
 
-// What is kept of a line. A burst's line is shorter, so a longer one is refused for its length all the same.
+// What is kept of a line (`block_text::push`).
 type Line = [u8; 512];
 
 // The sender, and the length of the line that is not yet whole.
@@ -51,16 +52,6 @@ fn explain() {
     }
 }
 
-// Adds a byte to a line of that length, and gives the length after it.
-fn push(line: &mut Line, len: usize, byte: u8) -> usize {
-    if len < 512 {
-        line[len] = byte;
-        len + 1
-    } else {
-        len
-    }
-}
-
 // Sends the slot of a line of that length.
 fn send_line(sender: Sender, line: &Line, len: usize) -> Sender {
     sender.line(text::trimmed(text::front(line, len), b'\r'))
@@ -76,10 +67,20 @@ fn send_lines(lines: Lines, line: &mut Line, bytes: &[u8]) -> Lines {
             sender = send_line(sender, &*line, len);
             len = 0;
         } else {
-            len = push(line, len, byte);
+            len = block_text::push(line, len, byte);
         }
     }
     Lines { sender, len }
+}
+
+// Sends the slot of the last line, where no newline ends it, and one without a burst.
+fn finish(lines: Lines, line: &Line) {
+    let sender = lines.sender;
+    if lines.len > 0 {
+        send_line(sender, line, lines.len).silence();
+    } else {
+        sender.silence();
+    }
 }
 
 // Reads the next block. It has no bytes at the end of the input.
@@ -96,16 +97,11 @@ fn send_block(lines: Lines, line: &mut Line, block: &Block, len: usize) -> Lines
 }
 
 // A proved loop has to end, and nothing says that an input does: it counts down from a number that no run uses up.
-fn main() {
-    if os::arg_count() > 1 {
-        explain();
-        return;
-    }
+fn send_all() {
     let mut block = [0u8; 65536];
     let mut line = [0u8; 512];
-    let new = Sender::new();
     let mut lines = Lines {
-        sender: new,
+        sender: Sender::new(),
         len: 0,
     };
     let mut turns = u64::MAX;
@@ -117,9 +113,13 @@ fn main() {
         }
         lines = send_block(lines, &mut line, &block, n);
     }
-    let mut sender = lines.sender;
-    if lines.len > 0 {
-        sender = send_line(sender, &line, lines.len);
+    finish(lines, &line);
+}
+
+fn main() {
+    if os::arg_count() > 1 {
+        explain();
+    } else {
+        send_all();
     }
-    sender.silence();
 }

@@ -1,5 +1,5 @@
 // The slots, sent one behind the other.
-use block_text::Asked;
+use crate::slot;
 use dsp_types::COUNTERS;
 use dsp_types::LAST_SLOT;
 use dsp_types::SampleCount;
@@ -8,8 +8,6 @@ use libc::STDERR_FILENO;
 use libc::STDOUT_FILENO;
 use modulator::DqpskMapper;
 use modulator::Modulator;
-use slotter::Answer;
-use text::Text;
 
 pub struct Sender {
     modulator: Modulator,
@@ -96,50 +94,16 @@ impl Sender {
         self.send(false, b"")
     }
 
-    // Tells what is wrong with the line read last, and sends its slot without a burst.
-    fn complain(self, what: &[u8]) -> Sender {
-        let text = Text::new()
-            .append(b"tetra_tx: line ")
-            .decimal(self.lines)
-            .append(b": ")
-            .append(what)
-            .append(b"\n");
-        text.print(STDERR_FILENO);
-        self.silence()
-    }
-
-    // The bits of a burst of that type are refused by that number.
-    fn refuse(self, kind: u32, number: u32) -> Sender {
-        if number == 4 {
-            return self.complain(b"a bit is neither 0 nor 1");
-        }
-        if kind == 4 {
-            self.complain(b"sync takes 366 bits")
-        } else {
-            self.complain(b"a normal burst takes 462 bits")
-        }
-    }
-
-    fn burst(self, kind: u32, characters: &[u8]) -> Sender {
-        let burst = block_text::answer(kind, characters);
-        let answer = burst.answer;
-        let bits = burst.bits;
-        match answer {
-            Answer::Built(_, _) => self.send(true, &bits),
-            Answer::Refused(number) => self.refuse(kind, number),
-        }
-    }
-
     // Sends the slot that a line asks for.
     pub(crate) fn line(self, line: &[u8]) -> Sender {
         let mut next = self;
         next.lines = std::num::wrapping_add_u64(self.lines, 1);
-        let asked = block_text::read(line);
-        match asked {
-            Asked::Nothing => next,
-            Asked::Empty => next.silence(),
-            Asked::Burst(kind, at) => next.burst(kind, block_text::behind(line, at)),
-            Asked::Unknown => next.complain(b"not sync, normal1 or normal2 with bits, nor empty"),
+        let slot = slot::of_line(next.lines, line);
+        if slot.is_sent {
+            let bits = slot.bits;
+            next.send(slot.has_bits, &bits)
+        } else {
+            next
         }
     }
 }

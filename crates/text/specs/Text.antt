@@ -26,6 +26,14 @@ decimal (suc k) n = cond (ltb n 10) (digit n ∷ []) (decimal k (n / 10) ++ (dig
 unfoldable pub characterOf : ℕ → ℕ
 characterOf bit = cond (eqb bit 0) 48 49
 
+-- a burst type's name (01, "Slot bits and burst views": 0 none, 1 normal 1, 2 normal 2, 3 extended, 4 sync)
+unfoldable pub typeName : ℕ → List ℕ
+typeName type =
+    cond (eqb type 1) (ascii "normal1")
+    (cond (eqb type 2) (ascii "normal2")
+    (cond (eqb type 3) (ascii "extended")
+    (cond (eqb type 4) (ascii "sync") (ascii "none"))))
+
 -- the bytes of a text
 unfoldable pub textOf : Text → List ℕ
 textOf t = take (t .len) (t .bytes)

@@ -4,7 +4,7 @@ ghost use mathlib.Core.Path.{_≡_};
 ghost use mathlib.Core.List.{[], _++_, map};
 ghost use Prim.Native.Nat.{_≤_};
 ghost use lib.ListN.{length, take};
-ghost use Rattle.text.specs.Text.{textOf, cut, decimal, characterOf, trimmed};
+ghost use Rattle.text.specs.Text.{textOf, cut, decimal, characterOf, typeName, trimmed};
 
 // The first len of the bytes; a larger len counts as 1,024.
 pub struct Text {
@@ -94,6 +94,20 @@ impl Text {
             characters[i] = character_of(bits[i]);
         }
         self.append(&characters[..count])
+    }
+
+    // With a burst type's name behind it.
+    pub fn type_name(self, kind: u32) -> Text
+        ensures { λ r. ⌜ textOf r ≡ cut (textOf self ++ typeName kind) ⌝ }
+        ensures { λ r. ⌜ (r .len ≤ 1024) × (r .len ≡ length (textOf r)) ⌝ }
+    {
+        match kind {
+            1 => self.append(b"normal1"),
+            2 => self.append(b"normal2"),
+            3 => self.append(b"extended"),
+            4 => self.append(b"sync"),
+            _ => self.append(b"none"),
+        }
     }
 
     fn length(self) -> usize

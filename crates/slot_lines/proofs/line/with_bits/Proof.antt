@@ -4,10 +4,10 @@ use mathlib.Core.List.{append-assoc, append-nil}
 use lib.ListN.{length}
 use Rattle.text.specs.Text.{textOf, cut, ascii}
 use Rattle.text.proofs.Cutting.{then, held}
-use Rattle.tetra_rx.specs.Lines.{bitsField}
+use Rattle.slot_lines.specs.Lines.{bitsField}
 use borrow.Author.Needs.{needs}
-use Rattle.tetra_rx.proofs.line.with_bits.Statement.{statement}
-use Rattle.tetra_rx.proofs.line.with_bits.Tie as tie
+use Rattle.slot_lines.proofs.line.with_bits.Statement.{statement}
+use Rattle.slot_lines.proofs.line.with_bits.Tie as tie
 
 slice-aggregate-append : tie.Need-slice-aggregate-append
 slice-aggregate-append c = search needs

@@ -1,17 +1,8 @@
--- The line that is printed of a slot. Definitions only.
+-- The line that is printed of a slot (man/tetra_rx.1). Definitions only.
 use Prim.Native.Nat.{ℕ}
 use mathlib.Core.Bool.{Bool, cond}
 use mathlib.Core.List.{List, [], _++_, map}
-use lib.Dec.{eqb}
-use Rattle.text.specs.Text.{ascii, decimal, characterOf}
-
--- a burst type's name (01, "Slot bits and burst views": 0 none, 1 normal 1, 2 normal 2, 3 extended, 4 sync)
-unfoldable pub typeName : ℕ → List ℕ
-typeName type =
-    cond (eqb type 1) (ascii "normal1")
-    (cond (eqb type 2) (ascii "normal2")
-    (cond (eqb type 3) (ascii "extended")
-    (cond (eqb type 4) (ascii "sync") (ascii "none"))))
+use Rattle.text.specs.Text.{ascii, decimal, characterOf, typeName}
 
 -- the burst's bits, where they are wanted
 unfoldable pub bitsField : Bool → List ℕ → List ℕ

@@ -1,10 +1,9 @@
--- `line::with_name` meets its contract: its tests are the definition's.
+-- `Text::type_name` meets its contract: its tests are the definition's.
 use borrow.Author.Tests.{ne-eqb}
-use Rattle.text.specs.Text.{ascii}
-use Rattle.tetra_rx.specs.Lines.{typeName}
+use Rattle.text.specs.Text.{ascii, typeName}
 use borrow.Author.Needs.{needs}
-use Rattle.tetra_rx.proofs.line.with_name.Statement.{statement}
-use Rattle.tetra_rx.proofs.line.with_name.Tie as tie
+use Rattle.text.proofs.Text.type_name.Statement.{statement}
+use Rattle.text.proofs.Text.type_name.Tie as tie
 
 slice-aggregate-append : tie.Need-slice-aggregate-append
 slice-aggregate-append c = search needs
@@ -38,29 +37,29 @@ append-requires-5 c κs = search needs
 
 returns : tie.Need-returns
 unfolding typeName ascii
-returns c = rw (c .before .before .match .keys1) (c .append .ensures .0)
+returns c = rw (c .before .before .match .keys1) (c .append .ensures)
 
 returns-2 : tie.Need-returns-2
 unfolding typeName ascii
-returns-2 c = rw (c .before .before .match .keys2) (c .append2 .ensures .0)
+returns-2 c = rw (c .before .before .match .keys2) (c .append2 .ensures)
 
 returns-3 : tie.Need-returns-3
 unfolding typeName ascii
-returns-3 c = rw (c .before .before .match .keys3) (c .append3 .ensures .0)
+returns-3 c = rw (c .before .before .match .keys3) (c .append3 .ensures)
 
 returns-4 : tie.Need-returns-4
 unfolding typeName ascii
-returns-4 c = rw (c .before .before .match .keys4) (c .append4 .ensures .0)
+returns-4 c = rw (c .before .before .match .keys4) (c .append4 .ensures)
 
 returns-5 : tie.Need-returns-5
 unfolding typeName ascii
 returns-5 c =
-    let t = c .before .before .before .args .train-type in
+    let t = c .before .before .before .args .kind in
     let m = c .before .before .match .rest in
-    rw (ne-eqb t 1 (m .0 .0 .0 .1), ne-eqb t 2 (m .0 .0 .1), ne-eqb t 3 (m .0 .1), ne-eqb t 4 (m .1)) (c .append5 .ensures .0)
+    rw (ne-eqb t 1 (m .0 .0 .0 .1), ne-eqb t 2 (m .0 .0 .1), ne-eqb t 3 (m .0 .1), ne-eqb t 4 (m .1)) (c .append5 .ensures)
 
-pub with-name-spec : {M : Type 1} → statement M
-with-name-spec =
+pub type-name-spec : {M : Type 1} → statement M
+type-name-spec =
     tie.close
     (tie.spec
     slice-aggregate-append

@@ -1,0 +1,7 @@
+// The lines that samples print: each slot that they hand over is taken, and its line made.
+mod line;
+mod listen;
+
+pub use line::slot_line;
+pub use listen::Heard;
+pub use listen::hear;
