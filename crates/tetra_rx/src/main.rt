@@ -1,12 +1,12 @@
 // Receives a downlink: raw samples (`.cf32`) from standard input, a line for each slot to standard output.
-mod listener;
+mod downlink;
 mod options;
 mod tally;
 
+use downlink::Downlink;
 use libc::STDERR_FILENO;
 use libc::STDIN_FILENO;
 use libc::STDOUT_FILENO;
-use listener::Listener;
 use options::Options;
 ghost use Prim.Native.Nat.{_≤_};
 
@@ -86,12 +86,12 @@ fn keep_rest(block: &mut Block, len: usize) -> usize {
 }
 
 // What is told at the end: the bytes of half a sample, and the summary.
-fn finish(listener: Listener, held: usize, options: Options) {
+fn finish(downlink: Downlink, held: usize, options: Options) {
     if held > 0 {
         tally::tell_rest(held);
     }
     if !options.is_quiet {
-        listener.summary();
+        downlink.summary();
     }
 }
 
@@ -102,20 +102,20 @@ fn receive(options: Options) {
     let mut re = [0.0f32; 2048];
     let mut im = [0.0f32; 2048];
     let mut abs = [0.0f32; 2048];
-    let mut listener = Listener::new();
+    let mut downlink = Downlink::new();
     let mut held: usize = 0;
     let mut turns = u64::MAX;
-    while turns > 0 && listener.tally.is_open {
+    while turns > 0 && downlink.tally.is_open {
         turns -= 1;
         let len = fill(&mut block, held);
         if len == held {
             break;
         }
         let n = decode(&block, len, &mut parts);
-        listener = listener.hear(&mut re, &mut im, &mut abs, decoded(&parts, n), options);
+        downlink = downlink.hear(&mut re, &mut im, &mut abs, decoded(&parts, n), options);
         held = keep_rest(&mut block, len);
     }
-    finish(listener, held, options);
+    finish(downlink, held, options);
 }
 
 fn main() {

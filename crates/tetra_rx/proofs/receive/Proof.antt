@@ -6,11 +6,11 @@ use Rattle.tetra_rx.proofs.receive.Statement.{statement}
 use Rattle.tetra_rx.proofs.receive.Tie as tie
 
 abbrev Inv-loop : tie.InvT-loop
-Inv-loop options block₀ parts₀ re₀ im₀ abs₀ listener₀ held₀ turns₀ block parts re im abs listener held turns =
+Inv-loop options block₀ parts₀ re₀ im₀ abs₀ downlink₀ held₀ turns₀ block parts re im abs downlink held turns =
     Unit {0}
 
 abbrev μ-loop : tie.MeasureT-loop
-μ-loop options block₀ parts₀ re₀ im₀ abs₀ listener₀ held₀ turns₀ block parts re im abs listener held turns =
+μ-loop options block₀ parts₀ re₀ im₀ abs₀ downlink₀ held₀ turns₀ block parts re im abs downlink held turns =
     turns
 
 counted-down : (c : tie.In-loop Inv-loop μ-loop) → 0 < c .before .loop .turns

@@ -10,7 +10,7 @@ use slot_receiver::Mode;
 use text::Text;
 
 // The receiver's past is lent to the calls that hear, so that none of them copies it.
-pub struct Listener {
+pub struct Downlink {
     receiver: State,
     pub tally: Tally,
 }
@@ -23,10 +23,10 @@ fn tell(tally: Tally, before: u8, after: u8, stop: Stop, line: Text, options: Op
     tally.stopped(stop, line)
 }
 
-impl Listener {
-    pub(crate) fn new() -> Listener {
+impl Downlink {
+    pub(crate) fn new() -> Downlink {
         let receiver = State::new(Mode::DlUnsynchronized);
-        Listener {
+        Downlink {
             receiver,
             tally: Tally::new(),
         }
@@ -40,7 +40,7 @@ impl Listener {
         abs: &mut [f32; 2048],
         parts: &[f32],
         options: Options,
-    ) -> Listener {
+    ) -> Downlink {
         let count = parts.len() / 2;
         let mut receiver = self.receiver;
         let mut tally = self.tally;
@@ -61,7 +61,7 @@ impl Listener {
                 first,
                 options.has_bits,
             );
-            let before = receiver.mode;
+            let before = receiver.slots.mode;
             receiver = heard.state;
             at += heard.taken;
             let stop = heard.stop;
@@ -69,18 +69,18 @@ impl Listener {
             tally = tell(
                 tally.moved(heard.taken),
                 before,
-                receiver.mode,
+                receiver.slots.mode,
                 stop,
                 line,
                 options,
             );
         }
-        Listener { receiver, tally }
+        Downlink { receiver, tally }
     }
 
     // Tells the whole run.
     pub(crate) fn summary(self) {
         let receiver = self.receiver;
-        self.tally.summary(receiver.mode);
+        self.tally.summary(receiver.slots.mode);
     }
 }

@@ -1,12 +1,12 @@
--- `Listener::hear` is safe and ends: each step goes on, and no further than there are samples.
+-- `Downlink::hear` is safe and ends: each step goes on, and no further than there are samples.
 use mathlib.Core.Path.{_≡_, refl}
 use Prim.Native.Nat.{_+_, _-_, _*_, _/_, _^_, _<_, _≤_}
 use native.Mathlib.Omega.{arith}
 use lib.ListN.{length, drop, length-drop}
 use lib.Seq.{length-take-le}
 use borrow.Author.Needs.{needs}
-use Rattle.tetra_rx.proofs.listener.Listener.hear.Statement.{statement}
-use Rattle.tetra_rx.proofs.listener.Listener.hear.Tie as tie
+use Rattle.tetra_rx.proofs.downlink.Downlink.hear.Statement.{statement}
+use Rattle.tetra_rx.proofs.downlink.Downlink.hear.Tie as tie
 
 abbrev Inv-loop : tie.InvT-loop
 Inv-loop re₀ im₀ abs₀ parts options count receiver₀ tally₀ at₀ re im abs receiver tally at =
