@@ -39,13 +39,13 @@ told "an unknown option" 'tetra_rx: unknown option, see tetra_rx --help\n'
 [ ! -s "$work/out" ] || fail "an unknown option, and still lines"
 
 # A sample that is no number is told once and taken as missing: the slots go on, with their numbers.
-{ head -c 72000 "$work/sent"; printf '\000\000\300\177\000\000\000\000'; tail -c +72009 "$work/sent"; printf 'abc'; } |
-    "$rx" --no-bits >"$work/out" 2>"$work/err"
+{ head -c 72000 "$work/sent"; printf '\000\000\300\177\000\000\000\000'; tail -c +72009 "$work/sent"; printf 'abc'; } >"$work/holes"
+"$rx" --no-bits <"$work/holes" >"$work/out" 2>"$work/err"
 cut -d ' ' -f 1 "$work/out" | tr '\n' ' ' | cmp -s - "$work/numbers" || fail "a refused sample"
 told "a refused sample" 'tetra_rx: locked by sample 2055
 tetra_rx: sample 9000 refused=1, taken as missing; more such are counted
 tetra_rx: the last 3 bytes are no whole sample
-tetra_rx: 13244 samples, 11 slots, 1 samples refused, locked\n'
+tetra_rx: 13244 samples, 11 slots, 1 sample refused, locked\n'
 
 # A gap of two slots, samples 6,130 to 8,169, whose bytes are no number: the burst of slot 5 is printed as slot 6, as
 # docs/DIFFERENCES.md says. With zeros in their place it keeps its number.

@@ -1,10 +1,8 @@
 -- A listing is short: nothing of it is cut.
 use mathlib.Core.Path.{_≡_}
-use mathlib.Core.Bool.{Bool, true, false, cond}
 use mathlib.Core.List.{List, [], _∷_, map}
 use Prim.Native.Nat.{ℕ, suc, _≤_, _+_}
 use native.Mathlib.Omega.{arith}
-use lib.Dec.{eqb}
 use lib.IntN.{ℤ, pos, negsuc}
 use lib.ListN.{length, take, drop, length-append, length-map, length-drop, length-take, getD}
 use lib.Seq.{slice, take-add, drop-at, length-take-le}
@@ -13,22 +11,14 @@ use Rattle.slotter.specs.Bursts.{Told}
 use Rattle.text.specs.declared.Text.{Text}
 use Rattle.text.specs.Text.{textOf, ascii, characterOf, trimmed}
 use Rattle.text.proofs.Decimal.{length-decimal}
+use Rattle.text.proofs.Names.{length-name}
 use Rattle.block_text.specs.BlockText.{typeOf, answerOf}
-use Rattle.lister.specs.Listing.{signed, nameOf, refusalLine, burstLines, printed, listed, listing}
+use Rattle.lister.specs.Listing.{signed, refusalLine, burstLines, printed, listed, listing}
 
 length-signed : (z : ℤ) → length (signed z) ≤ 21
 unfolding signed ascii
 length-signed (pos n) = omega (arith, length-decimal 20 n)
 length-signed (negsuc n) = omega (arith, length-decimal 20 (suc n))
-
-length-name : (type : ℕ) → length (nameOf type) ≤ 7
-unfolding nameOf ascii
-length-name type = go (eqb type 4) (eqb type 1)
-  where
-    go : (a b : Bool) → length (cond a (ascii "sync") (cond b (ascii "normal1") (ascii "normal2"))) ≤ 7
-    go true b = omega arith
-    go false true = omega arith
-    go false false = omega arith
 
 length-two : (f : ℕ) (bits : List ℕ) → length (map characterOf (slice f (f + 2) bits)) ≤ 2
 length-two f bits = simp (length-map, length-drop, length-take) (omega arith)

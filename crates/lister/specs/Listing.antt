@@ -1,13 +1,11 @@
 -- The listing of a burst (01, "Checked figures"): from the bytes of the input to those of the output, for inputs of any length. Definitions only.
 use Prim.Native.Nat.{ℕ, suc}
-use mathlib.Core.Bool.{cond}
 use mathlib.Core.List.{List, [], _∷_, _++_, map}
 use lib.IntN.{ℤ, pos, negsuc}
-use lib.Dec.{eqb}
 use lib.ListN.{getD}
 use lib.Seq.{slice}
 use Rattle.dsp_types.specs.Refusals.{badLength}
-use Rattle.text.specs.Text.{ascii, decimal, characterOf, trimmed}
+use Rattle.text.specs.Text.{ascii, decimal, characterOf, typeName, trimmed}
 use Rattle.slotter.specs.Bursts.{Told}
 use Rattle.block_text.specs.BlockText.{typeOf, answerOf}
 
@@ -16,10 +14,6 @@ unfoldable pub signed : ℤ → List ℕ
 signed (pos n) = decimal 20 n
 signed (negsuc n) = ascii "-" ++ decimal 20 (suc n)
 
--- a type's name
-unfoldable pub nameOf : ℕ → List ℕ
-nameOf type = cond (eqb type 4) (ascii "sync") (cond (eqb type 1) (ascii "normal1") (ascii "normal2"))
-
 -- what is printed of a refusal
 unfoldable pub refusalLine : ℕ → List ℕ
 refusalLine n = ascii "refused=" ++ decimal 20 n ++ ascii "\n"
@@ -27,7 +21,7 @@ refusalLine n = ascii "refused=" ++ decimal 20 n ++ ascii "\n"
 -- what is printed of a burst of that type, with these sums and bits
 unfoldable pub burstLines : ℕ → ℤ → ℤ → List ℕ → List ℕ
 burstLines type first last bits =
-    ascii "kind=" ++ nameOf type
+    ascii "kind=" ++ typeName type
     ++ ascii "\nsum_first=" ++ signed first
     ++ ascii "\nadj_first=" ++ map characterOf (slice 12 14 bits)
     ++ ascii "\nsum_last=" ++ signed last

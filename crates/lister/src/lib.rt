@@ -12,7 +12,7 @@ ghost use mathlib.Core.List.{List, [], _∷_, _++_};
 ghost use Rattle.io.specs.Counts.{Counts};
 ghost use Rattle.text.specs.Text.{textOf, cut};
 ghost use Rattle.slotter.specs.Bursts.{told};
-ghost use Rattle.lister.specs.Listing.{signed, nameOf, refusalLine, burstLines, printed, listing};
+ghost use Rattle.lister.specs.Listing.{signed, refusalLine, burstLines, printed, listing};
 ghost use Rattle.lister.specs.Inputs.{inputOf};
 
 // The text with a whole number in decimal behind it.
@@ -23,19 +23,6 @@ fn with_signed(text: Text, n: i32) -> Text
         text.append(b"-").decimal((-1 - n) as u64 + 1)
     } else {
         text.decimal(n as u64)
-    }
-}
-
-// The text with a type's name behind it.
-fn with_name(text: Text, kind: u32) -> Text
-    ensures { λ r. ⌜ textOf r ≡ cut (textOf text ++ nameOf kind) ⌝ }
-{
-    if kind == 4 {
-        text.append(b"sync")
-    } else if kind == 1 {
-        text.append(b"normal1")
-    } else {
-        text.append(b"normal2")
     }
 }
 
@@ -56,7 +43,7 @@ fn built(kind: u32, first: i32, last: i32, burst: [u8; 510]) -> Text
     let bits: &[u8] = &burst;
     let adj_first = &bits[12..14];
     let adj_last = &bits[498..500];
-    let named = with_name(Text::new().append(b"kind="), kind);
+    let named = Text::new().append(b"kind=").type_name(kind);
     let one = with_signed(named.append(b"\nsum_first="), first)
         .append(b"\nadj_first=")
         .bits(adj_first);

@@ -10,6 +10,7 @@ use lib.Ieee.{Float}
 use Rattle.text.specs.Text.{ascii, cut, characterOf, typeName}
 use Rattle.text.proofs.Decimal.{length-decimal}
 use Rattle.text.proofs.Cutting.{short}
+use Rattle.text.proofs.Names.{length-name}
 use Rattle.burst_finder.specs.Slots.{getBurst}
 use Rattle.rx_slot.specs.declared.RxSlot.{RxSlot}
 use Rattle.receiver.specs.declared.State.{State}
@@ -25,17 +26,6 @@ use Rattle.slot_lines.specs.Lines.{bitsField, slotLine}
 use Rattle.slot_lines.specs.Blocks.{takeNext, lineOf}
 
 -- ---- a slot's line is short
-
-length-name : (type : ℕ) → length (typeName type) ≤ 8
-unfolding typeName ascii
-length-name type = go (eqb type 1) (eqb type 2) (eqb type 3) (eqb type 4)
-  where
-    go : (a b c d : Bool) → length (cond a (ascii "normal1") (cond b (ascii "normal2") (cond c (ascii "extended") (cond d (ascii "sync") (ascii "none"))))) ≤ 8
-    go true b c d = omega arith
-    go false true c d = omega arith
-    go false false true d = omega arith
-    go false false false true = omega arith
-    go false false false false = omega arith
 
 length-bits : (hasBits : Bool) (bits : List ℕ) → length bits ≤ 510 → length (bitsField hasBits bits) ≤ 516
 unfolding bitsField ascii

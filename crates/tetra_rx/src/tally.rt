@@ -54,6 +54,15 @@ pub(crate) fn tell_rest(held: usize) {
     );
 }
 
+// One sample, or several.
+fn with_refused(text: Text, refused: u64) -> Text {
+    if refused == 1 {
+        text.append(b" sample refused, ")
+    } else {
+        text.append(b" samples refused, ")
+    }
+}
+
 impl Tally {
     pub(crate) fn new() -> Tally {
         Tally {
@@ -127,9 +136,6 @@ impl Tally {
         let samples = with_number(Text::new(), b"tetra_rx: ", self.counter);
         let slots = with_number(samples, b" samples, ", self.slots);
         let refused = with_number(slots, b" slots, ", self.refused);
-        report(
-            with_mode(refused.append(b" samples refused, "), mode),
-            b"\n",
-        );
+        report(with_mode(with_refused(refused, self.refused), mode), b"\n");
     }
 }

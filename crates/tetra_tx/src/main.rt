@@ -29,7 +29,7 @@ Sends bursts of the TETRA downlink. Each line of the input is a slot:
   normal2 BITS   the same with training sequence 2
   empty          no burst
 An empty line, or one that starts with #, is passed over. A line that is none
-of these is told, and its slot is sent without a burst. A slot without a burst
+of these is reported, and its slot is sent without a burst. A slot without a burst
 follows the last one, so that a receiver sees its end.
 
 The output is raw samples, 72,000 a second: f32 re and im in turn, lowest byte

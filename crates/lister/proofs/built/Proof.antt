@@ -5,9 +5,9 @@ use native.Mathlib.Omega.{arith}
 use lib.ListN.{length, take, drop}
 use mir.Syntax.{w32}
 use mir.ValLaws.{toZ-ofZ}
-use Rattle.text.specs.Text.{textOf, cut, ascii, characterOf}
+use Rattle.text.specs.Text.{textOf, cut, ascii, characterOf, typeName}
 use Rattle.text.proofs.Cutting.{then}
-use Rattle.lister.specs.Listing.{signed, nameOf, burstLines}
+use Rattle.lister.specs.Listing.{signed, burstLines}
 use Rattle.lister.proofs.Short.{counts, part}
 use borrow.Author.Needs.{needs}
 use Rattle.lister.proofs.built.Statement.{statement}
@@ -34,7 +34,7 @@ returns c =
     let B = a .args .t4 in
     let h = long a in
     let t₁ : textOf (kind .append .result) ≡ cut (ascii "kind=") = rw (new .new .ensures .0) at (kind .append .ensures .0) in
-    let t₂ = then _ (nameOf (a .args .kind)) t₁ (named .with-name .ensures) in
+    let t₂ = then _ (typeName (a .args .kind)) t₁ (named .type-name .ensures .0) in
     let t₃ = then _ (ascii "\nsum_first=") t₂ (lead₁ .append2 .ensures .0) in
     let t₄ = then _ (signed (a .args .first)) t₃ (rw (toZ-ofZ w32 (a .args .first) (a .fits .first)) at (sum₁ .with-signed .ensures)) in
     let t₅ = then _ (ascii "\nadj_first=") t₄ (adj₁ .append3 .ensures .0) in
