@@ -33,7 +33,8 @@ use Rattle.account.specs.Reachable.{Reachable, anew, told}
 use Rattle.account.proofs.Laws.{Placed, placed}
 use Rattle.account.proofs.Times.{ready-parts, found-parts}
 use Rattle.account.proofs.Views.{Views, none-valid, valid-slot}
-use Rattle.account.proofs.Simulation.{shifted, shifted-parts, gap-span, advanced, advances}
+use Rattle.timing.specs.Tracking.{movedOf}
+use Rattle.account.proofs.Simulation.{shifted-parts, gap-span, advanced}
 use Rattle.account.proofs.Simulation.{valid-heard}
 use Rattle.account.proofs.Numbers.{process-step, accept-step}
 
@@ -167,10 +168,10 @@ on-bounded r k few b at =
     }
 
 advanced-bounded : (r : Receiver) (k : ℕ) → r .mode ≡ Dl → k < counters → Bounded r k → Bounded (advanced r) (suc k)
-unfolding advanced withClock withLock
+unfolding R.nextSlot R.tracked addSlots withClock withLock
 advanced-bounded r k m few b =
     let e : Float = r .lock .timingError in
-    let z : ℤ = shifted e (r .clock .referenceTime) in
+    let z : ℤ = r .clock .referenceTime +ℤ movedOf e in
     let y = shifted-parts e (r .clock .referenceTime) in
     let g = gap-span e in
     let p = reach-dl (r .mode) k m in
@@ -247,7 +248,7 @@ scheduled : (m : Mode) (r : Receiver) (k : ℕ) → r .mode ≡ m → k < counte
 unfolding R.schedule
 scheduled Idle r k m few j = bounded-more r k (suc k) (omega arith) (j .bounded)
 scheduled DlUnsynchronized r k m few j = on-bounded r k few (j .bounded) (j .at m)
-scheduled Dl r k m few j = rw (advances r) (advanced-bounded r k m few (j .bounded))
+scheduled Dl r k m few j = advanced-bounded r k m few (j .bounded)
 scheduled Ul r k m few j = next-bounded r (suc k) (omega arith) (bounded-more r k (suc k) (omega arith) (j .bounded))
 
 window-bounded : (r : Receiver) (k : ℕ) → k < counters → Bounded r k → up (r .clock .slotReadyTime) + 16 ≡ k + dn (r .clock .slotReadyTime) → Bounded (closeWindow r) (suc k)

@@ -24,7 +24,6 @@ use Rattle.slot_receiver.specs.Windows.{slot, Window, searchKind, kindOf, windo
 use Rattle.slot_receiver.specs.Calls.{took, Outcome, unless, sampleRefusal, sampled, sampleOutcome, takeRefusal, taken, takeOutcome}
 use Rattle.receiver.specs.Feed.{Block, fedOne, fedBy, feedOf}
 use Rattle.account.specs.Numbers.{Numbered}
-use Rattle.account.proofs.Simulation.{advanced, advances}
 use Rattle.account.proofs.Views.{Views, none-valid, window-valid, valid-number}
 
 -- ---- from r to r′, closing the windows ws
@@ -149,10 +148,10 @@ record Next (r r′ : Receiver) : Type 0 where
   slot : r′ .slot ≡ r .slot
 
 next : (m : Mode) (r : Receiver) → r .clock .currentSlot < slots → Next r (R.schedule m r)
-unfolding R.schedule R.searchOn R.nextSlot R.addSlots R.setSlot advanced withClock withLock
+unfolding R.schedule R.searchOn R.nextSlot R.tracked R.addSlots R.setSlot withClock withLock
 next Idle r few = record { current = few; slot = refl }
 next DlUnsynchronized r few = record { current = few; slot = refl }
-next Dl r few = rw (advances r) (record { current = slot-below _; slot = refl })
+next Dl r few = record { current = slot-below _; slot = refl }
 next Ul r few = record { current = slot-below _; slot = refl }
 
 -- ---- a window closes

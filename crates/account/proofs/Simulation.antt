@@ -6,7 +6,8 @@ use mathlib.Core.List.{List, [], _∷_, _++_}
 use Prim.Native.Nat.{ℕ, zero, suc, _+_, _*_, _%_, _≤_, _<_}
 use native.Mathlib.Omega.{arith}
 use native.Mathlib.Nat.{mod-eq-of-lt}
-use lib.IntN.{ℤ, pos, negsuc, _+ℤ_, _-ℤ_}
+use lib.IntN.{ℤ, pos, negsuc, _+ℤ_, _-ℤ_, +ℤ-idr}
+use mathlib.Core.Logic.{inl, inr}
 use lib.Dec.{ltb, leb, eqb}
 use lib.Ieee.{Float, binary32, sub}
 use borrow.Author.Tests.{eqb-true, eqb-false, ne-eqb, lt-ltb, le-ltb, leb-true, leb-false}
@@ -16,7 +17,8 @@ use Rattle.dsp_types.specs.declared.ComplexSample.{ComplexSample}
 use Rattle.dsp_types.specs.Ints.{up, dn, eqZ}
 use Rattle.dsp_types.proofs.IntLaws.{sum, above-zero}
 use Rattle.dsp_types.specs.Times.{slots, slotOf}
-use Rattle.timing.specs.Tracking.{late, early, loweredOf, settledOf}
+use Rattle.timing.specs.Tracking.{late, early, loweredOf, settledOf, movedOf}
+use Rattle.timing.proofs.Tracking.{moved-law}
 use Rattle.burst_finder.specs.declared.SlotType.the-variants as SlotType
 use Rattle.burst_finder.specs.Search.{findSync}
 use Rattle.listener.specs.Signal.{Signal, hear, slotTiming, windowBits}
@@ -28,7 +30,7 @@ use Rattle.rx_slot.specs.Slots.{HandedSlot, withViews}
 use Rattle.rx_slot.specs.Views.{noView, checked}
 use Rattle.slot_receiver.specs.Windows.{Kind, quiet, lock, slot, Window, kindOf, searchKind, windowAt, windowOf, windowIf}
 use Rattle.account.specs.Rules.{Account, typeOf, slotWith, slotIn, nextMisses, nextNumber}
-use Rattle.account.specs.Tracked.{Tracked, gapOf, slotGap, errorAfter, searchTurn, slotTurn, windowTurn, turnIf, turn}
+use Rattle.account.specs.Tracked.{Tracked, slotGap, errorAfter, searchTurn, slotTurn, windowTurn, turnIf, turn}
 use Rattle.account.specs.Account.{Waiting, nothing, waits, changed}
 use Rattle.account.proofs.Laws.{not-late, not-early, Placed, placed}
 use Rattle.account.proofs.Times.{near, past, skips-one, closes-yes, closes-no, ready-parts, next-slot, first-slot, found-parts}
@@ -166,54 +168,27 @@ module _ (r : Receiver) (x : ComplexSample) (n : ℕ) (v : valid r ≡ r) where
   unfolding processSample R.arrive R.ready R.skipped R.tdiff R.skipIf R.closes R.closeIf windowOf windowAt windowIf listen withSignal withClock
   skips e s f = (rw (valid-heard r x v, e, s, f), rw (valid-heard r x v, e, s, f))
 
--- ---- a locked receiver's slot timing: the two tests move the reference time by at most one, and the next slot with it. No float is looked at
-unfoldable pub shift : (late early : Bool) → ℤ → ℤ
-shift true true z = z +ℤ pos 1 +ℤ negsuc 0
-shift true false z = z +ℤ pos 1
-shift false true z = z +ℤ negsuc 0
-shift false false z = z
-
-unfoldable pub shifted : Float → ℤ → ℤ
-shifted e z = shift (late e) (early (loweredOf e)) z
-
-shift-parts : (a b : Bool) (z : ℤ) → up (shift a b z) + dn z + 1020 ≡ dn (shift a b z) + up z + gapOf a b
-unfolding shift gapOf
-shift-parts true true z = omega (arith, sum z (pos 1), sum (z +ℤ pos 1) (negsuc 0))
-shift-parts true false z = omega (arith, sum z (pos 1))
-shift-parts false true z = omega (arith, sum z (negsuc 0))
-shift-parts false false z = omega arith
-
-pub shifted-parts : (e : Float) (z : ℤ) → up (shifted e z) + dn z + 1020 ≡ dn (shifted e z) + up z + slotGap e
-unfolding shifted slotGap
-shifted-parts e z = shift-parts (late e) (early (loweredOf e)) z
+-- ---- a locked receiver's slot timing: the reference time moves by at most one, and the next slot with it. No float is looked at
+pub shifted-parts : (e : Float) (z : ℤ) → up (z +ℤ movedOf e) + dn z + 1020 ≡ dn (z +ℤ movedOf e) + up z + slotGap e
+unfolding slotGap
+shifted-parts e z =
+    elim (moved-law e) [
+      | inl p ↦ rw p (omega (arith, sum z (pos 0)))
+      | inr o ↦ elim o [ inl p ↦ rw p (omega (arith, sum z (pos 1))) | inr p ↦ rw p (omega (arith, sum z (negsuc 0))) ]
+    ]
 
 pub gap-span : (e : Float) → (1019 ≤ slotGap e) × (slotGap e ≤ 1021)
-unfolding slotGap gapOf
-gap-span e = go (late e) (early (loweredOf e))
-  where
-    go : (a b : Bool) → (1019 ≤ gapOf a b) × (gapOf a b ≤ 1021)
-    go true true = omega arith
-    go true false = omega arith
-    go false true = omega arith
-    go false false = omega arith
+unfolding slotGap
+gap-span e = elim (moved-law e) [ inl p ↦ rw p (omega arith) | inr o ↦ elim o [ inl p ↦ rw p (omega arith) | inr p ↦ rw p (omega arith) ] ]
 
 -- a receiver after its slot's window: the next slot, with the reference time moved
-unfoldable pub advanced : Receiver → Receiver
-advanced r =
-    withLock
-    (withClock r (setSlot (r .mode) (shifted (r .lock .timingError) (r .clock .referenceTime)) (slotOf (pos (r .clock .currentSlot) +ℤ pos 1))))
-    (record { timingError = settledOf (r .lock .timingError); misses = r .lock .misses })
+abbrev pub advanced : Receiver → Receiver
+advanced r = R.nextSlot (R.tracked r)
 
-advance-by : (r : Receiver) (a b : Bool) → late (r .lock .timingError) ≡ a → early (cond a (sub binary32 (r .lock .timingError) oneF) (r .lock .timingError)) ≡ b
-    → R.nextSlot (R.trackedSooner (R.trackedLater r)) ≡ advanced r
-unfolding R.nextSlot withClock withLock addSlots R.trackedSooner R.trackedLater R.sooner R.later R.moved advanced shifted shift settledOf loweredOf setSlot
-advance-by r true true p q = rw (p, q)
-advance-by r true false p q = rw (p, q)
-advance-by r false true p q = rw (p, q)
-advance-by r false false p q = rw (p, q)
-
-pub advances : (r : Receiver) → R.nextSlot (R.trackedSooner (R.trackedLater r)) ≡ advanced r
-advances r = advance-by r (late (r .lock .timingError)) (early (cond (late (r .lock .timingError)) (sub binary32 (r .lock .timingError) oneF) (r .lock .timingError))) refl refl
+-- an error within both tests moves nothing
+settled-stays : (r : Receiver) → late (r .lock .timingError) ≡ false → early (r .lock .timingError) ≡ false → R.tracked r ≡ r
+unfolding R.tracked movedOf settledOf loweredOf withClock withLock
+settled-stays r a b = rw (a, b, +ℤ-idr (r .clock .referenceTime))
 
 -- ---- a window closes, in its four ways
 module _ (r : Receiver) where
@@ -230,8 +205,8 @@ module _ (r : Receiver) where
   found = withClock (R.found r (findSync (windowBits (r .signal)) .pos)) (setSlot Dl (R.found r (findSync (windowBits (r .signal)) .pos) .clock .referenceTime) 0)
 
   close-locks : r .mode ≡ DlUnsynchronized → leb (findSync (windowBits (r .signal)) .dist) 1 ≡ true → closeWindow r ≡ found
-  unfolding closeWindow R.processed R.processPastSamples R.searchWindow R.found withMode withClock withLock withSlot R.schedule R.nextSlot R.trackedSooner R.trackedLater R.sooner R.later addSlots setSlot found
-  close-locks m e = rw (m, e, not-late (r .signal), not-early (r .signal), first-slot)
+  unfolding closeWindow R.processed R.processPastSamples R.searchWindow R.found withMode withClock withLock withSlot R.schedule R.nextSlot addSlots setSlot found
+  close-locks m e = rw (m, e, settled-stays (R.found r (findSync (windowBits (r .signal)) .pos)) (not-late (r .signal)) (not-early (r .signal)), first-slot)
 
   -- a locked window: the slot is handed over
   abbrev type : ℕ
@@ -256,7 +231,7 @@ module _ (r : Receiver) where
 
   close-keeps : r .mode ≡ Dl → leb 100 (nextMisses type (r .lock .misses)) ≡ false → closeWindow r ≡ advanced (handed-over Dl)
   unfolding closeWindow R.schedule R.modeAfter handed-over R.handOver withWaits withSlot withMode
-  close-keeps m e = rw (hands-over Dl m (rw e)) (advances (handed-over Dl))
+  close-keeps m e = rw (hands-over Dl m (rw e))
 
   close-loses : r .mode ≡ Dl → leb 100 (nextMisses type (r .lock .misses)) ≡ true
       → closeWindow r ≡ withClock (handed-over DlUnsynchronized) (R.searchOn (r .clock))
@@ -425,7 +400,7 @@ module _ (r : Receiver) (x : ComplexSample) (n : ℕ) (t : Tracked) (v : valid r
   -- a locked window, the lock kept
   slot-kept : Locked (r .mode) (r .lock) t → Steady (r .clock) n t → Whole (r .slot) → n < counters → eqb n (t .account .due) ≡ true
       → leb 100 (nextMisses (typeOf (windowBits s′)) (r .lock .misses)) ≡ false → Steps
-  unfolding listen withSignal advanced withClock withLock handed-over R.handOver withWaits withSlot withMode over slotTurn nextNumber setSlot R.slotReadyFromBegin
+  unfolding listen withSignal R.nextSlot R.tracked addSlots withClock withLock handed-over R.handOver withWaits withSlot withMode over slotTurn nextNumber setSlot R.slotReadyFromBegin
   slot-kept l s u few e f =
       let eq : n ≡ t .account .due = eqb-true n (t .account .due) e in
       let z : ℤ = r .clock .slotReadyTime in
@@ -440,9 +415,9 @@ module _ (r : Receiver) (x : ComplexSample) (n : ℕ) (t : Tracked) (v : valid r
       let me = ap (λ (y : Lock). nextMisses type (y .misses)) (l .lock) in
       let w : slotOf (pos (r .clock .currentSlot) +ℤ pos 1) ≡ suc k = rw (s .current) (next-slot k (omega (arith, s))) in
       let nn : suc k % slots ≡ suc k = mod-eq-of-lt (omega (arith, s)) in
-      let y = slot-ready (shifted error (r .clock .referenceTime)) (suc k) in
+      let y = slot-ready (r .clock .referenceTime +ℤ movedOf error) (suc k) in
       let b = shifted-parts error (r .clock .referenceTime) in
-      let ready : ℤ = setSlot Dl (shifted error (r .clock .referenceTime)) (suc k) .slotReadyTime in
+      let ready : ℤ = setSlot Dl (r .clock .referenceTime +ℤ movedOf error) (suc k) .slotReadyTime in
       let a : dn ready ≡ 0 = above-zero ready (omega (arith, y, b, s, g)) in
       assemble (q .0 ∙ c) (one-window (q .1) (kind-slot (r .mode) (closeWindow (listen r x)) r′ (slotIn (t .account) (windowBits s′)) (l .mode) c (handed-is (listen r x) (t .account) (windowBits s′) (s .current) u)))
       (turn-slot t n s′ true e (l .locked) (lt-ltb (nextMisses type (t .account .misses)) 100 (omega (arith, leb-false 100 (nextMisses type (r .lock .misses)) f, me))))

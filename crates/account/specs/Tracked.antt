@@ -6,9 +6,10 @@ use Prim.Native.Nat.{ℕ, zero, suc, _+_, _*_}
 use lib.ListN.{length}
 use lib.Dec.{ltb, leb, eqb}
 use lib.Ieee.{Float}
+use lib.IntN.{pos, natAbs, _+ℤ_}
 use Rattle.dsp_types.specs.declared.ComplexSample.{ComplexSample}
 use Rattle.dsp_types.specs.Samples.{zeroF}
-use Rattle.timing.specs.Tracking.{averagedOf, late, early, loweredOf, settledOf}
+use Rattle.timing.specs.Tracking.{averagedOf, settledOf, movedOf}
 use Rattle.burst_finder.specs.Search.{findSync}
 use Rattle.listener.specs.Signal.{Signal, quiet, hear, slotTiming, windowBits}
 use Rattle.account.specs.Rules.{Account, start, typeOf, nextMisses, searchOn, locked, handed}
@@ -24,16 +25,9 @@ pub record Tracked : Type 0 where
   pub account : Account
   pub error : Float
 
--- from a slot's window to the next: 1,020 samples, one more or one less by the two tests of the error
-unfoldable pub gapOf : (late early : Bool) → ℕ
-gapOf true true = 1020
-gapOf true false = 1021
-gapOf false true = 1019
-gapOf false false = 1020
-
--- that span, by the averaged error
+-- from a slot's window to the next: 1,020 samples, one more or one less as the averaged error moves the reference time
 unfoldable pub slotGap : Float → ℕ
-slotGap e = gapOf (late e) (early (loweredOf e))
+slotGap e = natAbs (pos 1020 +ℤ movedOf e)
 
 -- a training sequence brings the error up to date
 unfoldable pub errorAfter : (type : ℕ) → Float → Float → Float

@@ -2,18 +2,21 @@
 -- by one sample, and the ready time is at most all slots behind it. Assumes nothing.
 use mathlib.Core.Path.{_≡_, refl}
 use mathlib.Core.Bool.{Bool, true, false}
+use mathlib.Core.Logic.{inl, inr}
 use Prim.Native.Nat.{ℕ, suc, _+_, _-_, _*_, _/_, _≤_, _<_, _^_}
 use native.Mathlib.Omega.{arith}
 use lib.Dec.{leb, lit≤}
 use lib.ListN.{length}
 use lib.IntN.{ℤ, pos, negsuc, negℤ, _+ℤ_, _-ℤ_, _*ℤ_}
 use lib.Signed.{quotZ}
+use lib.Ieee.{Float}
 use Rattle.dsp_types.proofs.Laws.{slot-below}
 use Rattle.dsp_types.specs.Ints.{up, dn, eqZ}
 use Rattle.dsp_types.proofs.IntLaws.{sum, less, same, up-neg, dn-neg}
 use Rattle.dsp_types.specs.Samples.{silence, ago}
 use Rattle.dsp_types.specs.Times.{slots, slotOf}
-use Rattle.timing.specs.Tracking.{late, early}
+use Rattle.timing.specs.Tracking.{movedOf}
+use Rattle.timing.proofs.Tracking.{moved-law}
 use Rattle.timing.specs.Turns.{wholeOf, fractOf}
 use Rattle.burst_finder.specs.declared.Found.{Found}
 use Rattle.burst_finder.specs.Search.{findSync}
@@ -22,7 +25,7 @@ use Rattle.slot_bits.proofs.Laws.{length-bits}
 use Rattle.listener.specs.Signal.{Signal, timingOf, bitsOf, windowBits}
 use Rattle.slot_receiver.specs.declared.Mode.{Mode}
 use Rattle.slot_receiver.specs.declared.Mode.the-variants.{Idle, DlUnsynchronized, Dl, Ul}
-use Rattle.slot_receiver.specs.Receiver.{Clock, Receiver, withMode, withClock, withLock, withWaits, withSlot, setSlot, addSlots, slotReadyFromBegin, foundTime, found, notFoundYet, searchWindow, handOver, downlinkWindow, processPastSamples, moved, later, sooner, trackedLater, trackedSooner, processed, tdiff, far, slotsToSkip, skipIf, skipped}
+use Rattle.slot_receiver.specs.Receiver.{Clock, Receiver, withMode, withClock, withLock, withWaits, withSlot, setSlot, addSlots, slotReadyFromBegin, foundTime, found, notFoundYet, searchWindow, handOver, downlinkWindow, processPastSamples, tracked, processed, tdiff, far, slotsToSkip, skipIf, skipped}
 use Rattle.slot_receiver.specs.Bounds.{Within, Timed, Closing, Scheduled, Counter}
 use Rattle.slot_receiver.proofs.Signed.{wider, within-pos, within-sum, within-difference, ready-within, eqZ-true, counter-37}
 
@@ -64,46 +67,21 @@ found-within z place h l =
     wider (2 ^ 39) (lit≤ tt)
     (within-sum (z -ℤ pos 2034) (pos (place * 2)) (within-difference z (pos 2034) h (within-pos {n = 2034} 2034 (lit≤ tt))) (within-pos {n = place * 2} 512 (omega (arith, l))))
 
--- one sample later and one sooner
-back : (z : ℤ) → z +ℤ pos 1 +ℤ negsuc 0 ≡ z
-back z = same (z +ℤ pos 1 +ℤ negsuc 0) z (omega (arith, sum (z +ℤ pos 1) (negsuc 0), sum z (pos 1)))
-
--- tracking: the reference time moves by at most one
-moved-within : {b : ℕ} (t u : Bool) (r : Receiver) → Within b (r .clock .referenceTime) → Within (b + 1) (sooner u (later t r) .clock .referenceTime)
-unfolding later sooner moved withClock withLock
-moved-within {b} true true r h = rw (back (r .clock .referenceTime)) (wider (b + 1) (omega arith) h)
-moved-within {b} true false r h = within-sum (r .clock .referenceTime) (pos 1) h (within-pos {n = 1} 1 (lit≤ tt))
-moved-within {b} false true r h = within-sum {b = 1} (r .clock .referenceTime) (negsuc 0) h (record { high = omega arith; low = lit≤ tt })
-moved-within {b} false false r h = wider (b + 1) (omega arith) h
-
-pub later-within : {b : ℕ} (r : Receiver) → Within b (r .clock .referenceTime) → Within (b + 1) (trackedLater r .clock .referenceTime)
-unfolding trackedLater sooner
-later-within r h = moved-within (late (r .lock .timingError)) false r h
-
--- ... and the current slot stays
-tracked-slot : (r : Receiver) → trackedSooner (trackedLater r) .clock .currentSlot ≡ r .clock .currentSlot
-unfolding trackedLater trackedSooner later sooner moved withClock withLock
-tracked-slot r = go (late (r .lock .timingError)) (early (later (late (r .lock .timingError)) r .lock .timingError))
-  where
-    go : (t u : Bool) → sooner u (later t r) .clock .currentSlot ≡ r .clock .currentSlot
-    go true true = refl
-    go true false = refl
-    go false true = refl
-    go false false = refl
+-- tracking moves the reference time by at most one
+pub moved-within : (e : Float) → Within 1 (movedOf e)
+moved-within e = elim (moved-law e) [ inl z ↦ rw z (within-pos 1 (lit≤ tt)) | inr o ↦ elim o [ inl p ↦ rw p (within-pos 1 (lit≤ tt)) | inr n ↦ rw n (record { high = omega arith; low = lit≤ tt }) ] ]
 
 -- a receiver that was tracked
 pub record Tracked (k : Clock) : Type 0 where
   pub reference : Within (2 ^ 40) (k .referenceTime)
   pub current : k .currentSlot < slots
 
-pub tracked-near : (r : Receiver) → Scheduled (r .clock) → Tracked (trackedSooner (trackedLater r) .clock)
-unfolding trackedSooner trackedLater
+pub tracked-near : (r : Receiver) → Scheduled (r .clock) → Tracked (tracked r .clock)
+unfolding tracked withClock withLock
 tracked-near r h =
-    let t : Bool = late (r .lock .timingError) in
-    record {
-      reference = wider (2 ^ 40) (lit≤ tt) (moved-within t (early (later t r .lock .timingError)) r (h .reference));
-      current = rw (tracked-slot r) (h .current);
-    }
+    let z = r .clock .referenceTime in
+    let e = movedOf (r .lock .timingError) in
+    record { reference = wider (2 ^ 40) (lit≤ tt) (within-sum z e (h .reference) (moved-within (r .lock .timingError))); current = h .current }
 
 -- when a slot is ready: less than 2^40 samples from 0
 pub ready-near : (m : Mode) (z : ℤ) (s : ℕ) → Within (2 ^ 39 + 1) z → s < slots → Within (2 ^ 40) (z +ℤ pos (s * 1020) +ℤ slotReadyFromBegin m)

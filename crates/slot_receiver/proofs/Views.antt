@@ -1,16 +1,16 @@
 -- What a window's code leaves in the stored state is, in its view, what the definitions make of a receiver. Assumes nothing.
 use mathlib.Core.Path.{_≡_, refl, _∙_}
-use mathlib.Core.Bool.{true, false}
+use mathlib.Core.Bool.{true, false, cond}
 use Prim.Native.Nat.{ℕ, zero, suc, _+_, _*_, _≤_, _<_}
 use native.Mathlib.Omega.{arith}
 use native.Mathlib.Numerals.{add-one}
 use lib.ListN.{take}
-use lib.IntN.{ℤ, pos, negsuc, _+ℤ_, _-ℤ_}
+use lib.IntN.{ℤ, pos, negsuc, _+ℤ_, _-ℤ_, +ℤ-idr, +ℤ-assoc}
 use lib.Ieee.{Float, binary32, add, sub}
 use borrow.Author.Tests.{le-leb, lt-leb, ne-eqb}
 use Rattle.dsp_types.specs.Samples.{zeroF, oneF}
 use Rattle.dsp_types.specs.Times.{slotOf}
-use Rattle.timing.specs.Tracking.{averagedOf, late, early}
+use Rattle.timing.specs.Tracking.{averagedOf, late, early, loweredOf, settledOf, movedOf}
 use Rattle.burst_finder.specs.declared.Found.{Found}
 use Rattle.burst_finder.specs.declared.SlotType.the-variants as SlotType
 use Rattle.burst_finder.specs.Search.{findSync, below}
@@ -23,7 +23,7 @@ use Rattle.listener.proofs.Reading.{read-bits}
 use Rattle.rx_slot.specs.Views.{BurstView, checked}
 use Rattle.slot_receiver.specs.declared.Mode.{Mode}
 use Rattle.slot_receiver.specs.declared.Mode.the-variants.{Idle, DlUnsynchronized, Dl, Ul}
-use Rattle.slot_receiver.specs.Receiver.{Lock, Receiver, withMode, withClock, withLock, withSlot, setSlot, emptied, found, notFoundYet, searchWindow, handOver, lockAfter, modeAfter, downlinkSlot, downlinkWindow, uplinkSlot, processPastSamples, moved, later, sooner, trackedLater, trackedSooner, searchOn, schedule}
+use Rattle.slot_receiver.specs.Receiver.{Lock, Receiver, withMode, withClock, withLock, withSlot, setSlot, emptied, found, notFoundYet, searchWindow, handOver, lockAfter, modeAfter, downlinkSlot, downlinkWindow, uplinkSlot, processPastSamples, tracked, searchOn, schedule}
 use Rattle.slot_receiver.specs.View.{modeOf, modeNumber}
 use Rattle.slot_receiver.proofs.Times.{found-reference, sync-placed}
 
@@ -125,23 +125,27 @@ module _ (r : Receiver) where
       (withClock r (record { referenceTime = z; slotReadyTime = r .clock .slotReadyTime; currentSlot = r .clock .currentSlot }))
       (record { timingError = e; misses = r .lock .misses })
 
-  pub shifted-later : (z : ℤ) → late (r .lock .timingError) ≡ true → z ≡ r .clock .referenceTime +ℤ pos 1
-      → shifted z (sub binary32 (r .lock .timingError) oneF) ≡ trackedLater r
-  unfolding trackedLater later moved
+  -- after the first test
+  abbrev pub lowered : Receiver
+  lowered = shifted (r .clock .referenceTime +ℤ cond (late (r .lock .timingError)) (pos 1) (pos 0)) (loweredOf (r .lock .timingError))
+
+  pub shifted-later : (z : ℤ) → late (r .lock .timingError) ≡ true → z ≡ r .clock .referenceTime +ℤ pos 1 → shifted z (sub binary32 (r .lock .timingError) oneF) ≡ lowered
+  unfolding loweredOf
   shifted-later z t e = rw (t, e)
 
-  pub not-later : late (r .lock .timingError) ≡ false → r ≡ trackedLater r
-  unfolding trackedLater later
-  not-later t = rw t
+  pub not-later : late (r .lock .timingError) ≡ false → r ≡ lowered
+  unfolding loweredOf withClock withLock
+  not-later t = rw (t, +ℤ-idr (r .clock .referenceTime))
 
-  pub shifted-sooner : (z : ℤ) → early (r .lock .timingError) ≡ true → z ≡ r .clock .referenceTime -ℤ pos 1
-      → shifted z (add binary32 (r .lock .timingError) oneF) ≡ trackedSooner r
-  unfolding trackedSooner sooner moved
-  shifted-sooner z t e = rw (t, e)
+  -- ... and after the second
+  pub shifted-sooner : (z : ℤ) → early (loweredOf (r .lock .timingError)) ≡ true → z ≡ r .clock .referenceTime +ℤ cond (late (r .lock .timingError)) (pos 1) (pos 0) -ℤ pos 1
+      → shifted z (add binary32 (loweredOf (r .lock .timingError)) oneF) ≡ tracked r
+  unfolding tracked settledOf movedOf
+  shifted-sooner z t e = rw (t, e, +ℤ-assoc (r .clock .referenceTime) (cond (late (r .lock .timingError)) (pos 1) (pos 0)) (negsuc 0))
 
-  pub not-sooner : early (r .lock .timingError) ≡ false → r ≡ trackedSooner r
-  unfolding trackedSooner sooner
-  not-sooner t = rw t
+  pub not-sooner : early (loweredOf (r .lock .timingError)) ≡ false → lowered ≡ tracked r
+  unfolding tracked settledOf movedOf
+  not-sooner t = rw (t, +ℤ-idr (cond (late (r .lock .timingError)) (pos 1) (pos 0)))
 
 -- ---- the next search window
 

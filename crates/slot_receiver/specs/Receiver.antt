@@ -5,13 +5,13 @@ use mathlib.Core.Bool.{Bool, true, false, cond, _||_}
 use lib.Dec.{leb}
 use lib.IntN.{ℤ, pos, negsuc, negℤ, _+ℤ_, _-ℤ_, _*ℤ_}
 use lib.Signed.{ltZ, mag, quotZ}
-use lib.Ieee.{Float, binary32, add, sub}
+use lib.Ieee.{Float}
 use Rattle.dsp_types.specs.declared.ComplexSample.{ComplexSample}
-use Rattle.dsp_types.specs.Samples.{zeroF, silence, oneF}
+use Rattle.dsp_types.specs.Samples.{zeroF, silence}
 use Rattle.dsp_types.specs.Refusals.{counters}
 use Rattle.dsp_types.specs.Times.{slots, slotOf, divEuclid}
 use Rattle.dsp_types.specs.Ints.{eqZ}
-use Rattle.timing.specs.Tracking.{averagedOf, late, early}
+use Rattle.timing.specs.Tracking.{averagedOf, settledOf, movedOf}
 use Rattle.burst_finder.specs.declared.SlotType.the-variants as SlotType
 use Rattle.burst_finder.specs.Search.{findSync}
 use Rattle.burst_finder.specs.Slots.{mostErrors}
@@ -170,26 +170,17 @@ processPastSamples Ul r = handOver r (uplinkSlot (r .clock .currentSlot) (r .sig
 
 -- ---- slot timing after a window
 
-unfoldable pub moved : Receiver → ℤ → Float → Receiver
-moved r d e =
+-- tracking: an averaged error above 0.5 makes the reference time one sample later, one below −0.5 one sample sooner
+unfoldable pub tracked : Receiver → Receiver
+tracked r =
     withLock
-    (withClock r (record { referenceTime = r .clock .referenceTime +ℤ d; slotReadyTime = r .clock .slotReadyTime; currentSlot = r .clock .currentSlot }))
-    (record { timingError = e; misses = r .lock .misses })
-
--- an averaged error above 0.5 makes the reference time one sample later, one below −0.5 one sample sooner
-unfoldable pub later : Bool → Receiver → Receiver
-later true r = moved r (pos 1) (sub binary32 (r .lock .timingError) oneF)
-later false r = r
-
-unfoldable pub sooner : Bool → Receiver → Receiver
-sooner true r = moved r (negsuc 0) (add binary32 (r .lock .timingError) oneF)
-sooner false r = r
-
-unfoldable pub trackedLater : Receiver → Receiver
-trackedLater r = later (late (r .lock .timingError)) r
-
-unfoldable pub trackedSooner : Receiver → Receiver
-trackedSooner r = sooner (early (r .lock .timingError)) r
+    (withClock r
+    (record {
+      referenceTime = r .clock .referenceTime +ℤ movedOf (r .lock .timingError);
+      slotReadyTime = r .clock .slotReadyTime;
+      currentSlot = r .clock .currentSlot;
+    }))
+    (record { timingError = settledOf (r .lock .timingError); misses = r .lock .misses })
 
 -- 400 samples on
 unfoldable pub searchOn : Clock → Clock
@@ -201,7 +192,7 @@ nextSlot r = withClock r (addSlots (r .mode) (r .clock) (pos 1))
 unfoldable pub schedule : Mode → Receiver → Receiver
 schedule Idle r = r
 schedule DlUnsynchronized r = withClock r (searchOn (r .clock))
-schedule Dl r = nextSlot (trackedSooner (trackedLater r))
+schedule Dl r = nextSlot (tracked r)
 schedule Ul r = nextSlot r
 
 unfoldable pub processed : Receiver → Receiver
