@@ -20,7 +20,7 @@ use Rattle.slot_receiver.specs.Calls.{Reply, refused, done, took, unless, sampl
 use Rattle.account.specs.CallList as CallList
 use Rattle.account.specs.CallList.{Call, sample, follow, outcome, after, answers, closed}
 use Rattle.account.specs.Rules.{Account}
-use Rattle.account.specs.Tracked.{Tracked, signalOf, tracked, turn, account}
+use Rattle.account.specs.Tracked.{Tracked, signalHeard, tracked, turn, account}
 use Rattle.account.specs.Account
 use Rattle.account.specs.Account.{Waiting, nothing, waits, changed, lastHanded, newer, sized, seenIf, seen, answered, toldTake, modeOf, accountOf, heard, ifAccepted, nextCounter, Counted, expected, expectedAll}
 use Rattle.account.proofs.Times.{none-missing}
@@ -106,7 +106,7 @@ pub record Agree (cs : List Call) : Type 0 where
   pub within : Within (after cs)
   pub next : after cs .next ≡ nextCounter cs
   pub counted : nextCounter cs ≡ pos (length (heard cs))
-  pub signal : after cs .signal ≡ signalOf (heard cs)
+  pub signal : after cs .signal ≡ signalHeard (heard cs)
   pub timed : Timed (after cs .mode) (after cs .clock) (after cs .lock) (length (heard cs)) (tracked (heard cs))
   pub waiting : Waits (after cs .waits) (after cs .slot) (Account.waiting cs)
   pub windows : closed cs ≡ accountOf cs .windows
@@ -114,7 +114,7 @@ pub record Agree (cs : List Call) : Type 0 where
   pub answered : answers cs ≡ expectedAll cs
 
 agree-new : Agree []
-unfolding after new noSlot R.setSlot R.slotReadyFromBegin nextCounter heard signalOf tracked Account.waiting Account.seen accountOf account lastHanded newer closed answers expectedAll
+unfolding after new noSlot R.setSlot R.slotReadyFromBegin nextCounter heard signalHeard tracked Account.waiting Account.seen accountOf account lastHanded newer closed answers expectedAll
 agree-new = record {
   within = new-within DlUnsynchronized;
   next = refl;
@@ -238,7 +238,7 @@ after-within x c cs w = sample-within (after cs) x c w
 accepts : (x : ComplexSample) (c : ℤ) (cs : List Call) (r′ : Receiver) (w : List Window) → Agree cs
     → Leaves (after cs) (sample x c) (withNext r′ (pos (length (heard cs)) +ℤ pos 1)) (w ++ []) done
     → sampleRefusal (nextCounter cs) x c ≡ 0 → c ≡ pos (length (heard cs))
-    → Stepped (after cs) r′ w (length (heard cs)) (signalOf (x ∷ heard cs)) (tracked (heard cs)) (tracked (x ∷ heard cs))
+    → Stepped (after cs) r′ w (length (heard cs)) (signalHeard (x ∷ heard cs)) (tracked (heard cs)) (tracked (x ∷ heard cs))
     → Agree (sample x c ∷ cs)
 unfolding accountOf account Account.waiting withNext
 accepts x c cs r′ w g o z q st =
@@ -266,7 +266,7 @@ accepts x c cs r′ w g o z q st =
     within-after = after-within x c cs (g .within)
 
 agree-accepted : (x : ComplexSample) (c : ℤ) (cs : List Call) → sampleRefusal (nextCounter cs) x c ≡ 0 → c ≡ pos (length (heard cs)) → Agree cs → Agree (sample x c ∷ cs)
-unfolding tracked signalOf
+unfolding tracked signalHeard
 agree-accepted x c cs e q g =
     let r : Receiver = after cs in
     let n : ℕ = length (heard cs) in

@@ -19,7 +19,7 @@ use Rattle.slot_receiver.specs.Calls.{Reply, refused, done, took, Outcome, unle
 use Rattle.account.specs.CallList as CallList
 use Rattle.account.specs.CallList.{Call, sample, follow, lent, outcome, after, answers, lentAfter}
 use Rattle.account.specs.Rules.{Account, Turn, between, stays, locks, hands, loses, typeOf, slotWith, slotIn, nextMisses}
-use Rattle.account.specs.Tracked.{Tracked, signalOf, slotGap, errorAfter, searchTurn, slotTurn, turn, tracked, account}
+use Rattle.account.specs.Tracked.{Tracked, signalHeard, slotGap, errorAfter, searchTurn, slotTurn, turn, tracked, account}
 use Rattle.account.specs.Account as Claim
 use Rattle.account.specs.Account.{Told, waits, changed, lastHanded, toldTake, heard, nextCounter, Counted, accountOf, expected, expectedAll, filledBy, expectedLent, Gives, Reported, Demand3, Throughout}
 use Rattle.account.proofs.Laws.{finds-holds, holds-finds, Placed, placed, window-type}
@@ -60,7 +60,7 @@ unfolding Told account tracked
 rules [] = (refl, lawful-start)
 rules (x ∷ older) =
     let h = rules older in
-    let t = turned (tracked older) (length older) (signalOf (x ∷ older)) (h .1) in
+    let t = turned (tracked older) (length older) (signalHeard (x ∷ older)) (h .1) in
     ((h .0, t), lawful-turn t (h .1))
 
 -- ---- a refused call changes nothing: neither the receiver nor the slices that it lends
@@ -124,26 +124,26 @@ locked-window t n s e g = go (ltb (nextMisses (typeOf (windowBits s)) (t .accoun
 
 windows-is : (x : ComplexSample) (older : List ComplexSample) → tracked older .account .locked ≡ true → tracked older .account .due ≡ length older
     → tracked (x ∷ older) .account .windows
-    ≡ record { counter = length older; kind = slot (slotIn (tracked older .account) (windowBits (signalOf (x ∷ older)))) } ∷ tracked older .account .windows
+    ≡ record { counter = length older; kind = slot (slotIn (tracked older .account) (windowBits (signalHeard (x ∷ older)))) } ∷ tracked older .account .windows
 unfolding tracked
-windows-is x older u d = locked-window (tracked older) (length older) (signalOf (x ∷ older)) (eq-eqb (length older) (tracked older .account .due) (sym d)) u
+windows-is x older u d = locked-window (tracked older) (length older) (signalHeard (x ∷ older)) (eq-eqb (length older) (tracked older .account .due) (sym d)) u
 
 waiting-is : (x : ComplexSample) (c : ℤ) (cs : List Call) → Agree cs → sampleRefusal (nextCounter cs) x c ≡ 0 → tracked (heard cs) .account .locked ≡ true
     → tracked (heard cs) .account .due ≡ length (heard cs)
-    → Claim.waiting (sample x c ∷ cs) ≡ waits (slotIn (tracked (heard cs) .account) (windowBits (signalOf (x ∷ heard cs))))
+    → Claim.waiting (sample x c ∷ cs) ≡ waits (slotIn (tracked (heard cs) .account) (windowBits (signalHeard (x ∷ heard cs))))
 unfolding Claim.waiting accountOf account lastHanded changed
 waiting-is x c cs g z u d =
-    let w : Window = record { counter = length (heard cs); kind = slot (slotIn (tracked (heard cs) .account) (windowBits (signalOf (x ∷ heard cs)))) } in
+    let w : Window = record { counter = length (heard cs); kind = slot (slotIn (tracked (heard cs) .account) (windowBits (signalHeard (x ∷ heard cs)))) } in
     rw (heard-is x c cs z, seen-sample x c cs, windows-is x (heard cs) u d, newer-cons (Claim.seen cs) w (tracked (heard cs) .account .windows) (g .seen))
 
 reported-sample : (x : ComplexSample) (c : ℤ) (cs : List Call) → Agree cs → Agree (sample x c ∷ cs) → Reported (sample x c ∷ cs)
 unfolding Reported accountOf account
 reported-sample x c cs g h z u d type burst s a b f =
-    let bits : List ℕ = windowBits (signalOf (x ∷ heard cs)) in
+    let bits : List ℕ = windowBits (signalHeard (x ∷ heard cs)) in
     let k : Account = tracked (heard cs) .account in
     gives k bits type (outcome (after (sample x c ∷ cs)) (CallList.take s a b) .reply)
     (take-leaves (after (sample x c ∷ cs)) s a b true (waits (slotIn k bits)) f (h .within) (rw (waiting-is x c cs g z u d) at (h .waiting)) .answer)
-    (window-type (signalOf (x ∷ heard cs)) burst)
+    (window-type (signalHeard (x ∷ heard cs)) burst)
 
 reported : (cs : List Call) → Counted cs → Reported cs
 unfolding Reported Counted

@@ -22,12 +22,12 @@ use Rattle.slot_receiver.specs.Calls.{Reply, refused, done, took, sampleRefusal
 use Rattle.account.specs.CallList as CallList
 use Rattle.account.specs.CallList.{Call, sample, follow, lent, outcome, after, answers, closed, lentAfter}
 use Rattle.account.specs.Rules.{Account, start, nextMisses, Turn}
-use Rattle.account.specs.Tracked.{signalOf, account}
+use Rattle.account.specs.Tracked.{signalHeard, account}
 
 -- at every sample the account takes a turn that the rules allow
 unfoldable pub Told : List ComplexSample → Type 0
 Told [] = account [] ≡ start
-Told (x ∷ older) = Told older × Turn (account older) (length older) (windowBits (signalOf (x ∷ older))) (account (x ∷ older))
+Told (x ∷ older) = Told older × Turn (account older) (length older) (windowBits (signalHeard (x ∷ older))) (account (x ∷ older))
 
 -- ════ what demand 3 counts, told from the closed windows
 
@@ -226,7 +226,7 @@ unfoldable pub Reported : List Call → Type 0
 Reported [] = Unit {0}
 Reported (sample x c ∷ cs) =
     sampleRefusal (nextCounter cs) x c ≡ accepted → accountOf cs .locked ≡ true → accountOf cs .due ≡ length (heard cs)
-    → (type : ℕ) → Burst type (windowBits (signalOf (x ∷ heard cs))) → (s a b : List ℕ) → sized s a b ≡ true
+    → (type : ℕ) → Burst type (windowBits (signalHeard (x ∷ heard cs))) → (s a b : List ℕ) → sized s a b ≡ true
     → Gives (accountOf cs .number) type (outcome (after (sample x c ∷ cs)) (CallList.take s a b) .reply)
 Reported (CallList.take s a b ∷ cs) = Unit {0}
 Reported (follow other ∷ cs) = Unit {0}

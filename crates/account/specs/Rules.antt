@@ -46,8 +46,8 @@ nextNumber n = suc n % slots
 -- ---- the account after a window that closed at n
 
 -- a search window: it goes on searching
-abbrev pub searchOn : Account → ℕ → Account
-searchOn a n = record { due = n + 400; locked = false; number = a .number; misses = a .misses; windows = record { counter = n; kind = quiet } ∷ a .windows }
+abbrev pub unfound : Account → ℕ → Account
+unfound a n = record { due = n + 400; locked = false; number = a .number; misses = a .misses; windows = record { counter = n; kind = quiet } ∷ a .windows }
 
 -- a search window: "the account is locked, the next number is 1, misses are 0, and the next closing is due 4 to 516 later"
 abbrev pub locked : Account → ℕ → (gap : ℕ) → Account
@@ -69,7 +69,7 @@ pub data Turn (a : Account) (n : ℕ) (bits : List ℕ) : Account → Type 0 whe
   -- no closing is due
   between : (n ≡ a .due → ⊥) → Turn a n bits a
   -- "In search: if demand 3's lock rule holds, the account is locked, .. else 400 later."
-  stays : n ≡ a .due → a .locked ≡ false → (Holds bits → ⊥) → Turn a n bits (searchOn a n)
+  stays : n ≡ a .due → a .locked ≡ false → (Holds bits → ⊥) → Turn a n bits (unfound a n)
   locks : (gap : ℕ) → n ≡ a .due → a .locked ≡ false → Holds bits → 4 ≤ gap → gap ≤ 516 → Turn a n bits (locked a n gap)
   -- "Locked: .. At 100 misses it is in search, due 400 later; else due 1,019 to 1,021 later."
   hands : (gap : ℕ) → n ≡ a .due → a .locked ≡ true → nextMisses (typeOf bits) (a .misses) < 100 → 1019 ≤ gap → gap ≤ 1021

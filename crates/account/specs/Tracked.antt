@@ -12,13 +12,13 @@ use Rattle.dsp_types.specs.Samples.{zeroF}
 use Rattle.timing.specs.Tracking.{averagedOf, settledOf, movedOf}
 use Rattle.burst_finder.specs.Search.{findSync}
 use Rattle.listener.specs.Signal.{Signal, quiet, hear, slotTiming, windowBits}
-use Rattle.account.specs.Rules.{Account, start, typeOf, nextMisses, searchOn, locked, handed}
+use Rattle.account.specs.Rules.{Account, start, typeOf, nextMisses, unfound, locked, handed}
 
 -- the samples so far, as the receiver keeps them. The bits of a window are `windowBits` of it: "what the sections above make of the
 -- samples up to and with that one"
-unfoldable pub signalOf : List ComplexSample → Signal
-signalOf [] = quiet
-signalOf (x ∷ older) = hear (signalOf older) x
+unfoldable pub signalHeard : List ComplexSample → Signal
+signalHeard [] = quiet
+signalHeard (x ∷ older) = hear (signalHeard older) x
 
 -- the account, and beside it the averaged timing error of the source
 pub record Tracked : Type 0 where
@@ -37,7 +37,7 @@ errorAfter (suc type) e timing = averagedOf e timing
 -- a search window, by whether the synchronization sequence is found, and where from bit 216 on
 unfoldable pub searchTurn : Bool → ℕ → Tracked → ℕ → Float → Tracked
 searchTurn true place t n timing = record { account = locked (t .account) n (4 + 2 * place); error = averagedOf zeroF timing }
-searchTurn false place t n timing = record { account = searchOn (t .account) n; error = t .error }
+searchTurn false place t n timing = record { account = unfound (t .account) n; error = t .error }
 
 -- a locked window with these bits, by whether the lock is kept; e is the error as they bring it up to date
 unfoldable pub slotTurn : Bool → List ℕ → Tracked → ℕ → Float → Tracked
@@ -62,7 +62,7 @@ turn t n s = turnIf (eqb n (t .account .due)) t n s
 -- all the samples, from the start on
 unfoldable pub tracked : List ComplexSample → Tracked
 tracked [] = record { account = start; error = zeroF }
-tracked (x ∷ older) = turn (tracked older) (length older) (signalOf (x ∷ older))
+tracked (x ∷ older) = turn (tracked older) (length older) (signalHeard (x ∷ older))
 
 -- 01's account of them
 unfoldable pub account : List ComplexSample → Account
