@@ -24,8 +24,8 @@ use Rattle.mapper.specs.declared.Due.{Due}
 use Rattle.mapper.specs.declared.Due.the-variants.{Refused, Silence, Symbol}
 use Rattle.mapper.specs.Dqpsk.{phaseAfter, inputOf}
 use Rattle.mapper.specs.Due.{inputRefusal, startOf, placeIn, symbolAt, dueIn, dueAt, dueIf, dueOf, refusalOf}
-use Rattle.modulator.specs.Sender.{shapedOf, toldOf, nextLine, Told, Sender, fedBy, tells, after}
-use Rattle.modulator.specs.Blocks.{Block, joinedIf, joined, sentBlock, blockCall, dueAfter, partsOf, Wrote, placeDue, inputsOf, phasesOf, fedBlock, leftOf}
+use Rattle.modulator.specs.Sender.{shapedOf, toldOf, nextLine, Told, Sender, filterInput, tells, senderAfter}
+use Rattle.modulator.specs.Blocks.{SentBlock, joinedIf, joined, sentBlock, blockCall, dueAfter, partsOf, Wrote, placeDue, inputsOf, phasesOf, fedBlock, leftOf}
 use Rattle.mapper.proofs.Places.{true-ne, early, late, within, slot-accepted}
 
 -- it is not a refusal
@@ -37,22 +37,22 @@ Sends (Symbol bit0 bit1) = Unit {0}
 -- ---- calls one by one
 
 -- the block of a call that is not refused and of those behind it
-then : (s : Sender) (d : Due) (rest : Block) → Sends d
-    → joined (tells s d) (after s d) rest ≡ record { outs = filterOf (ago silence (fedBy s d ∷ s .line)) ∷ rest .outs; refusal = rest .refusal; sender = rest .sender }
+then : (s : Sender) (d : Due) (rest : SentBlock) → Sends d
+    → joined (tells s d) (senderAfter s d) rest ≡ record { outs = filterOf (ago silence (filterInput s d ∷ s .line)) ∷ rest .outs; refusal = rest .refusal; sender = rest .sender }
 unfolding joined joinedIf tells toldOf shapedOf
 then s (Refused n) rest h = absurd h
 then s Silence rest h = refl
 then s (Symbol bit0 bit1) rest h = refl
 
-moved : (s : Sender) (d : Due) → Sends d → after s d ≡ record { line = take 32 (fedBy s d ∷ s .line); phase = phaseAfter (s .phase) d }
-unfolding after nextLine
+moved : (s : Sender) (d : Due) → Sends d → senderAfter s d ≡ record { line = take 32 (filterInput s d ∷ s .line); phase = phaseAfter (s .phase) d }
+unfolding senderAfter nextLine
 moved s (Refused n) h = absurd h
 moved s Silence h = refl
 moved s (Symbol bit0 bit1) h = refl
 
 -- a refused call ends it
 stopped : (due : ℕ → Due) (k i r : ℕ) (s : Sender) → due i ≡ Refused (suc r) → sentBlock due (suc k) i s ≡ record { outs = []; refusal = suc r; sender = s }
-unfolding sentBlock joined joinedIf tells toldOf after nextLine phaseAfter
+unfolding sentBlock joined joinedIf tells toldOf senderAfter nextLine phaseAfter
 stopped due k i r s e = rw e
 
 module _ (due : ℕ → Due) where
@@ -61,7 +61,7 @@ module _ (due : ℕ → Due) where
       → let xs = inputsOf due n i (s .phase) in
       let rest = sentBlock due k at (record { line = lineAfter (s .line) xs; phase = phasesOf due n i (s .phase) }) in
       sentBlock due (n + k) i s ≡ record { outs = outsOf (s .line) xs ++ rest .outs; refusal = rest .refusal; sender = rest .sender }
-  unfolding inputsOf phasesOf lineAfter outsOf sentBlock fedBy
+  unfolding inputsOf phasesOf lineAfter outsOf sentBlock filterInput
   all-sent zero k i at s e h =
       let m : 0 + k ≡ k = omega arith in
       let f : at ≡ i = omega arith in
@@ -73,8 +73,8 @@ module _ (due : ℕ → Due) where
       let t : Sender = record { line = take 32 (x ∷ s .line); phase = phaseAfter (s .phase) d } in
       let g = h i (le-refl i) (omega arith) in
       ap (λ (c : ℕ). sentBlock due c i s) m
-      ∙ then s d (sentBlock due (n + k) (suc i) (after s d)) g
-      ∙ ap (λ (b : Block). record { outs = filterOf (ago silence (x ∷ s .line)) ∷ b .outs; refusal = b .refusal; sender = b .sender })
+      ∙ then s d (sentBlock due (n + k) (suc i) (senderAfter s d)) g
+      ∙ ap (λ (b : SentBlock). record { outs = filterOf (ago silence (x ∷ s .line)) ∷ b .outs; refusal = b .refusal; sender = b .sender })
       (ap (sentBlock due (n + k) (suc i)) (moved s d g) ∙ all-sent n k (suc i) at t (omega arith) (λ j l u. h j (omega arith) (omega arith)))
 
   -- ... where those k are none, or the first of them is refused
@@ -302,10 +302,10 @@ module _ (due other : ℕ → Due) (k n : ℕ) (h : (j : ℕ) → other j ≡ du
       → Wrote (fedBlock due (k + n) r s) (k + n) r u out₀ (take (2 * k) out ++ (part ++ drop (length out - 2 * k) (drop (2 * k) out)))
   wrote-more r t u out₀ out part a b = go (subst (λ (v : Sender). Wrote (fedBlock other n 0 v) n 0 u (take (length out - 2 * k) (drop (2 * k) out)) part) (a .sent) b)
     where
-      one : Block
+      one : SentBlock
       one = fedBlock due k r s
 
-      two : Block
+      two : SentBlock
       two = fedBlock other n 0 (one .sender)
 
       go : Wrote two n 0 u (take (length out - 2 * k) (drop (2 * k) out)) part
@@ -397,7 +397,7 @@ count-within m start h = omega arith
 
 -- ---- a block is no longer than its room
 
-no-longer : (m : ℕ) (t : Told) (s : Sender) (rest : Block) (n : ℕ) → length (t .samples) ≤ 1 → length (rest .outs) ≤ n → length (joinedIf m t s rest .outs) ≤ suc n
+no-longer : (m : ℕ) (t : Told) (s : Sender) (rest : SentBlock) (n : ℕ) → length (t .samples) ≤ 1 → length (rest .outs) ≤ n → length (joinedIf m t s rest .outs) ≤ suc n
 unfolding joinedIf
 no-longer zero t s rest n h k = omega (arith, length-append (t .samples) (rest .outs))
 no-longer (suc m) t s rest n h k = omega arith
@@ -411,7 +411,7 @@ one-sample s (Symbol bit0 bit1) = omega arith
 sent-within : (due : ℕ → Due) (n i : ℕ) (s : Sender) → length (sentBlock due n i s .outs) ≤ n
 unfolding sentBlock joined
 sent-within due zero i s = omega arith
-sent-within due (suc n) i s = no-longer (tells s (due i) .number) (tells s (due i)) (after s (due i)) _ n (one-sample s (due i)) (sent-within due n (suc i) (after s (due i)))
+sent-within due (suc n) i s = no-longer (tells s (due i) .number) (tells s (due i)) (senderAfter s (due i)) _ n (one-sample s (due i)) (sent-within due n (suc i) (senderAfter s (due i)))
 
 -- of what a block call promises
 pub wrote-within : (due : ℕ → Due) (n count r : ℕ) (s t : Sender) (out out′ : List Float) {Kept : Type 0} → Wrote (blockCall due n s) count r t out out′ × Kept → count ≤ n

@@ -16,7 +16,7 @@ use Rattle.modulator.specs.declared.sender.Sampled.{Sampled}
 use Rattle.modulator.specs.declared.sender.Stepped.{Stepped as Beside}
 use Rattle.modulator.specs.declared.sender.Modulator.{Modulator}
 use Rattle.mapper.specs.Dqpsk.{phaseAfter, inputOf}
-use Rattle.modulator.specs.Sender.{Told, told, shapedOf, toldOf, nextLine, senderOf, tells, after, fedBy}
+use Rattle.modulator.specs.Sender.{Told, told, shapedOf, toldOf, nextLine, senderOf, tells, senderAfter, filterInput}
 
 -- ---- `told` tells all answers apart
 
@@ -56,7 +56,7 @@ Fed m d x r = (told (r .answer) ≡ toldOf (lineOf (m .filter)) x d) × (lineOf 
 
 -- ... and of the call
 abbrev pub Sent : Modulator → DqpskMapper → Due → DqpskMapper → Sampled → Type 0
-Sent m h d k r = (told (r .answer) ≡ tells (senderOf m h) d) × (senderOf (r .modulator) k ≡ after (senderOf m h) d)
+Sent m h d k r = (told (r .answer) ≡ tells (senderOf m h) d) × (senderOf (r .modulator) k ≡ senderAfter (senderOf m h) d)
     × ((n : ℕ) → r .answer ≡ answer.Refused n → (r .modulator ≡ m) × (k ≡ h))
 
 -- a refused call changes nothing
@@ -68,7 +68,7 @@ unchanged m h Silence k x r n s f a = absurd (shaped-sends _ _ n (sym (ap told a
 unchanged m h (Symbol bit0 bit1) k x r n s f a = absurd (shaped-sends _ _ n (sym (ap told a) ∙ f .0))
 
 pub sent : (m : Modulator) (h : DqpskMapper) (d e : Due) (k : DqpskMapper) (x : ComplexSample) (r : Sampled) → d ≡ e → Stepped (h .phase) d (k .phase) x → Fed m d x r → Sent m h e k r
-unfolding senderOf tells after fedBy
+unfolding senderOf tells senderAfter filterInput
 sent m h d e k x r p s f =
     let y : x ≡ inputOf (phaseAfter (h .phase) e) e = s .1 ∙ ap (λ (c : Due). inputOf (phaseAfter (h .phase) c) c) p in
     let line = f .1 ∙ (λ i. nextLine (lineOf (m .filter)) (y i) (p i)) in
@@ -77,7 +77,7 @@ sent m h d e k x r p s f =
 
 -- the same call with the phase record beside the answer
 abbrev pub SentBeside : Modulator → DqpskMapper → Due → Beside → Type 0
-SentBeside m h d y = (told (y .answer) ≡ tells (senderOf m h) d) × (senderOf (y .modulator) (y .mapper) ≡ after (senderOf m h) d)
+SentBeside m h d y = (told (y .answer) ≡ tells (senderOf m h) d) × (senderOf (y .modulator) (y .mapper) ≡ senderAfter (senderOf m h) d)
     × ((n : ℕ) → y .answer ≡ answer.Refused n → (y .modulator ≡ m) × (y .mapper ≡ h))
 
 pub beside : (m : Modulator) (h : DqpskMapper) (d : Due) (k : DqpskMapper) (r : Sampled) (y : Beside) → Sent m h d k r

@@ -58,13 +58,13 @@ unfoldable pub newSender : Sender
 newSender = record { line = replicate 32 silence; phase = 0 }
 
 -- what the filter is fed
-unfoldable pub fedBy : Sender → Due → ComplexSample
-fedBy s d = inputOf (phaseAfter (s .phase) d) d
+unfoldable pub filterInput : Sender → Due → ComplexSample
+filterInput s d = inputOf (phaseAfter (s .phase) d) d
 
 -- what a call answers where d is due
 unfoldable pub tells : Sender → Due → Told
-tells s d = toldOf (s .line) (fedBy s d) d
+tells s d = toldOf (s .line) (filterInput s d) d
 
 -- ... and the sender after it
-unfoldable pub after : Sender → Due → Sender
-after s d = record { line = nextLine (s .line) (fedBy s d) d; phase = phaseAfter (s .phase) d }
+unfoldable pub senderAfter : Sender → Due → Sender
+senderAfter s d = record { line = nextLine (s .line) (filterInput s d) d; phase = phaseAfter (s .phase) d }

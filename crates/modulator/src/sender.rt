@@ -13,7 +13,7 @@ ghost use lib.ListN.{take, replicate};
 ghost use Rattle.dsp_types.specs.Samples.{silence};
 ghost use Rattle.fir.specs.Fir.{lineOf};
 ghost use Rattle.mapper.specs.Due.{dueOf};
-ghost use Rattle.modulator.specs.Sender.{told, shapedOf, toldOf, nextLine, senderOf, tells, after};
+ghost use Rattle.modulator.specs.Sender.{told, shapedOf, toldOf, nextLine, senderOf, tells, senderAfter};
 
 pub enum Answer {
     Sample { re: f32, im: f32 },
@@ -106,7 +106,7 @@ impl Modulator {
         ensures { λ r. ⌜
             (let d = dueOf («sample_counter» .0) (slot .0) «has_bits» (now (bits .entry)) in
             (told (r .answer) ≡ tells (senderOf self (now (mapper .entry))) d)
-            × (senderOf (r .modulator) (now (mapper .exit)) ≡ after (senderOf self (now (mapper .entry))) d)
+            × (senderOf (r .modulator) (now (mapper .exit)) ≡ senderAfter (senderOf self (now (mapper .entry))) d)
             × ((n : ℕ) → r .answer ≡ Answer.Refused n → (r .modulator ≡ self) × (now (mapper .exit) ≡ now (mapper .entry)))) ⌝ }
     {
         let d = due_now(sample_counter, slot, has_bits, bits);
@@ -126,7 +126,7 @@ impl Modulator {
         ensures { λ r. ⌜
             (let d = dueOf («sample_counter» .0) (slot .0) «has_bits» (now (bits .entry)) in
             (told (r .answer) ≡ tells (senderOf self mapper) d)
-            × (senderOf (r .modulator) (r .mapper) ≡ after (senderOf self mapper) d)
+            × (senderOf (r .modulator) (r .mapper) ≡ senderAfter (senderOf self mapper) d)
             × ((n : ℕ) → r .answer ≡ Answer.Refused n → (r .modulator ≡ self) × (r .mapper ≡ mapper))) ⌝ }
     {
         let sampled = self.sample(&mut mapper, sample_counter, slot, has_bits, bits);
