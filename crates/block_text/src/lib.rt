@@ -15,7 +15,7 @@ ghost use mathlib.Core.Path.{_≡_};
 ghost use Prim.Native.Nat.{_≤_};
 ghost use mathlib.Core.List.{_++_, map};
 ghost use lib.ListN.{length, drop, replicate};
-ghost use Rattle.slotter.specs.Bursts.{told};
+ghost use Rattle.slotter.specs.Bursts.{builderReply};
 ghost use Rattle.block_text.specs.BlockText.{typeOf, wanted, notCharacter, notCharacters, wrongCount, refusalOf, bitOf, burstOf, answerOf};
 
 // The burst type that a letter asks for: S 4, N 1, P 2, another letter 0.
@@ -102,7 +102,7 @@ fn bits_of(characters: &[u8]) -> [u8; 462]
 // The burst of a type, from the characters of its blocks.
 fn burst_of(kind: u32, characters: &[u8]) -> Burst
     requires { ⌜ length (now characters) ≡ wanted kind ⌝ }
-    ensures { λ r. ⌜ told r ≡ burstOf kind (map bitOf (now (characters .entry))) ⌝ }
+    ensures { λ r. ⌜ builderReply r ≡ burstOf kind (map bitOf (now (characters .entry))) ⌝ }
 {
     let all = bits_of(characters);
     let bits: &[u8] = &all;
@@ -116,7 +116,7 @@ fn burst_of(kind: u32, characters: &[u8]) -> Burst
 // The burst of a type, 4 sync, 1 or 2 normal, from its blocks' bits in burst order as characters 0 and 1, or their
 // refusal: 3, 4, or 5 for another type. For type 0, another letter, no length is judged.
 pub fn answer(kind: u32, characters: &[u8]) -> Burst
-    ensures { λ r. ⌜ told r ≡ answerOf kind (now (characters .entry)) ⌝ }
+    ensures { λ r. ⌜ builderReply r ≡ answerOf kind (now (characters .entry)) ⌝ }
 {
     let number = refusal_of(kind, characters);
     if number != ACCEPTED {

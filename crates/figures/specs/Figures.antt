@@ -7,7 +7,7 @@ use lib.Seq.{slice}
 use lib.Ieee.{Float, binary32, ofBits, ofInt}
 use Rattle.magnitude.specs.Magnitude.{magnitudeOf}
 use Rattle.timing.specs.Turns.{quarterTurns}
-use Rattle.slotter.specs.Bursts.{Told, syncBurst, normalBurst}
+use Rattle.slotter.specs.Bursts.{BuilderReply, syncBurst, normalBurst}
 
 -- the bursts with zero blocks
 pub data Kind : Type 0 where
@@ -39,7 +39,7 @@ abbrev pub half : Float
 half = ofBits binary32 0x3f00_0000
 
 -- what the builders' definitions give for zero blocks
-unfoldable pub burst : Kind → Told
+unfoldable pub burst : Kind → BuilderReply
 burst sync = syncBurst (replicate 120 0) (replicate 30 0) (replicate 216 0)
 burst normal1 = normalBurst 1 (replicate 216 0) (replicate 30 0) (replicate 216 0)
 burst normal2 = normalBurst 2 (replicate 216 0) (replicate 30 0) (replicate 216 0)

@@ -7,7 +7,7 @@ use lib.IntN.{ℤ, pos, negsuc}
 use lib.ListN.{length, take, drop, length-append, length-map, length-drop, length-take, getD}
 use lib.Seq.{slice, take-add, drop-at, length-take-le}
 use Rattle.io.specs.Counts.{Counts}
-use Rattle.slotter.specs.Bursts.{Told}
+use Rattle.slotter.specs.Bursts.{BuilderReply}
 use Rattle.text.specs.declared.Text.{Text}
 use Rattle.text.specs.Text.{textOf, ascii, characterOf, trimmed}
 use Rattle.text.proofs.Decimal.{length-decimal}
@@ -33,7 +33,7 @@ length-burst type first last bits =
     simp length-append
     (omega (arith, length-name type, length-signed first, length-two 12 bits, length-signed last, length-two 498 bits))
 
-length-printed : (type : ℕ) (told : Told) → length (printed type told) ≤ 1024
+length-printed : (type : ℕ) (told : BuilderReply) → length (printed type told) ≤ 1024
 unfolding printed
 length-printed type told = go (told .number) (told .sums) (told .bits)
   where

@@ -6,7 +6,7 @@ use lib.ListN.{getD}
 use lib.Seq.{slice}
 use Rattle.dsp_types.specs.Refusals.{badLength}
 use Rattle.text.specs.Text.{ascii, decimal, characterOf, typeName, trimmed}
-use Rattle.slotter.specs.Bursts.{Told}
+use Rattle.slotter.specs.Bursts.{BuilderReply}
 use Rattle.block_text.specs.BlockText.{typeOf, answerOf}
 
 -- a whole number in decimal
@@ -29,7 +29,7 @@ burstLines type first last bits =
     ++ ascii "\n"
 
 -- what is printed of an answer: a refusal has no sums
-unfoldable pub printed : ℕ → Told → List ℕ
+unfoldable pub printed : ℕ → BuilderReply → List ℕ
 printed type told = go (told .number) (told .sums) (told .bits)
   where
     go : ℕ → List ℤ → List ℕ → List ℕ

@@ -11,7 +11,7 @@ ghost use Prim.Native.Nat.{ℕ};
 ghost use mathlib.Core.List.{List, [], _∷_, _++_};
 ghost use Rattle.io.specs.Counts.{Counts};
 ghost use Rattle.text.specs.Text.{textOf, cut};
-ghost use Rattle.slotter.specs.Bursts.{told};
+ghost use Rattle.slotter.specs.Bursts.{builderReply};
 ghost use Rattle.lister.specs.Listing.{signed, refusalLine, burstLines, printed, listing};
 ghost use Rattle.lister.specs.Inputs.{inputOf};
 
@@ -55,7 +55,7 @@ fn built(kind: u32, first: i32, last: i32, burst: [u8; 510]) -> Text
 
 // What is printed of an answer to a letter of that type.
 fn print(kind: u32, burst: Burst) -> Text
-    ensures { λ r. ⌜ Counts (r .len) (r .bytes) × (textOf r ≡ cut (printed kind (told burst))) ⌝ }
+    ensures { λ r. ⌜ Counts (r .len) (r .bytes) × (textOf r ≡ cut (printed kind (builderReply burst))) ⌝ }
 {
     let answer = burst.answer;
     let bits = burst.bits;

@@ -9,7 +9,7 @@ use Rattle.dsp_types.specs.Refusals.{wrongLength}
 use Rattle.slotter.specs.declared.Burst.{Burst}
 use Rattle.slotter.specs.declared.Answer.{Answer}
 use Rattle.slotter.specs.declared.Answer.the-variants.{Built, Refused}
-use Rattle.slotter.specs.Bursts.{Told, told}
+use Rattle.slotter.specs.Bursts.{BuilderReply, builderReply}
 use Rattle.modem.specs.Build.{unless, buildRefusal, lentBurst}
 
 -- ---- the copy
@@ -30,15 +30,15 @@ copy-all (x ∷ from) (y ∷ to) (suc n) h l = ap (λ (r : List ℕ). x ∷ r) (
 
 -- ---- what a call returns and leaves
 
-pub told-bits : (burst : Burst) → burst .bits ≡ told burst .bits
-unfolding told
+pub told-bits : (burst : Burst) → burst .bits ≡ builderReply burst .bits
+unfolding builderReply
 told-bits burst = go (burst .answer) (burst .bits)
   where
-    go : (answer : Answer) (bits : List ℕ) → bits ≡ told (record { answer = answer; bits = bits }) .bits
+    go : (answer : Answer) (bits : List ℕ) → bits ≡ builderReply (record { answer = answer; bits = bits }) .bits
     go (Built first last) bits = refl
     go (Refused n) bits = refl
 
-module _ (burst : Told) (bits : List ℕ) where
+module _ (burst : BuilderReply) (bits : List ℕ) where
   module _ (n : length bits ≡ 510 → ⊥) where
     pub bad-room : 3 ≡ buildRefusal burst bits
     unfolding buildRefusal wrongLength

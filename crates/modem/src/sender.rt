@@ -9,7 +9,7 @@ ghost use mathlib.Core.Path.{_≡_};
 ghost use Prim.Native.Nat.{_/_};
 ghost use lib.ListN.{length};
 ghost use Rattle.mapper.specs.Due.{dueOf};
-ghost use Rattle.modulator.specs.Sender.{told, newSender, tells, senderAfter};
+ghost use Rattle.modulator.specs.Sender.{senderReply, newSender, tells, senderAfter};
 ghost use Rattle.modulator.specs.Blocks.{dueAfter, blockCall, Wrote};
 ghost use Rattle.modem.specs.Send.{isGiven, senderIn, sampleTold};
 
@@ -44,7 +44,7 @@ struct Parts {
 }
 
 fn told_parts(answer: Answer) -> Parts
-    ensures { λ r. ⌜ (r .refusal ≡ told answer .number) × (record { re = r .re; im = r .im } ≡ sampleTold (told answer)) ⌝ }
+    ensures { λ r. ⌜ (r .refusal ≡ senderReply answer .number) × (record { re = r .re; im = r .im } ≡ sampleTold (senderReply answer)) ⌝ }
 {
     match answer {
         Answer::Sample { re, im } => Parts {

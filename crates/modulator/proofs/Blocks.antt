@@ -24,7 +24,7 @@ use Rattle.mapper.specs.declared.Due.{Due}
 use Rattle.mapper.specs.declared.Due.the-variants.{Refused, Silence, Symbol}
 use Rattle.mapper.specs.Dqpsk.{phaseAfter, inputOf}
 use Rattle.mapper.specs.Due.{inputRefusal, startOf, placeIn, symbolAt, dueIn, dueAt, dueIf, dueOf, refusalOf}
-use Rattle.modulator.specs.Sender.{shapedOf, toldOf, nextLine, Told, Sender, filterInput, tells, senderAfter}
+use Rattle.modulator.specs.Sender.{shapedOf, toldOf, nextLine, SenderReply, Sender, filterInput, tells, senderAfter}
 use Rattle.modulator.specs.Blocks.{SentBlock, joinedIf, joined, sentBlock, blockCall, dueAfter, partsOf, Wrote, placeDue, inputsOf, phasesOf, fedBlock, leftOf}
 use Rattle.mapper.proofs.Places.{true-ne, early, late, within, slot-accepted}
 
@@ -397,7 +397,7 @@ count-within m start h = omega arith
 
 -- ---- a block is no longer than its room
 
-no-longer : (m : ℕ) (t : Told) (s : Sender) (rest : SentBlock) (n : ℕ) → length (t .samples) ≤ 1 → length (rest .outs) ≤ n → length (joinedIf m t s rest .outs) ≤ suc n
+no-longer : (m : ℕ) (t : SenderReply) (s : Sender) (rest : SentBlock) (n : ℕ) → length (t .samples) ≤ 1 → length (rest .outs) ≤ n → length (joinedIf m t s rest .outs) ≤ suc n
 unfolding joinedIf
 no-longer zero t s rest n h k = omega (arith, length-append (t .samples) (rest .outs))
 no-longer (suc m) t s rest n h k = omega arith

@@ -12,7 +12,7 @@ use Rattle.fir.specs.Fir.{lineAfter, outsOf, startWith}
 use Rattle.mapper.specs.declared.Due.{Due}
 use Rattle.mapper.specs.Dqpsk.{phaseAfter, inputOf}
 use Rattle.mapper.specs.Due.{placeIn, dueAt, dueOf, refusalOf}
-use Rattle.modulator.specs.Sender.{Told, Sender, tells, senderAfter}
+use Rattle.modulator.specs.Sender.{SenderReply, Sender, tells, senderAfter}
 
 -- the samples, oldest first, the number of the refusal that stopped them, if any, and the sender then
 pub record SentBlock : Type 0 where
@@ -21,12 +21,12 @@ pub record SentBlock : Type 0 where
   pub sender : Sender
 
 -- one call's answer, and the block of the calls behind it
-unfoldable pub joinedIf : ℕ → Told → Sender → SentBlock → SentBlock
+unfoldable pub joinedIf : ℕ → SenderReply → Sender → SentBlock → SentBlock
 joinedIf zero t s rest = record { outs = t .samples ++ rest .outs; refusal = rest .refusal; sender = rest .sender }
 joinedIf (suc n) t s rest = record { outs = []; refusal = suc n; sender = s }
 
 -- a refusal, whose number is not 0, ends the block
-unfoldable pub joined : Told → Sender → SentBlock → SentBlock
+unfoldable pub joined : SenderReply → Sender → SentBlock → SentBlock
 joined t s rest = joinedIf (t .number) t s rest
 
 -- at most n calls, where `due i` is due at the next
