@@ -85,20 +85,20 @@ unfoldable pub refusal : ℕ → BuilderReply
 refusal n = record { number = n; sums = []; bits = replicate 510 0 }
 
 -- the answer with that number: the burst of those fields, or the refusal
-unfoldable pub answered : ℕ → ℕ → List ℕ → BuilderReply
-answered zero last fields =
+unfoldable pub burstUnless : ℕ → ℕ → List ℕ → BuilderReply
+burstUnless zero last fields =
     record {
       number = accepted;
       sums = phaseSum (firstWindow last fields) ∷ phaseSum (lastWindow last fields) ∷ [];
       bits = downlink last fields;
     }
-answered (suc n) last fields = refusal (suc n)
+burstUnless (suc n) last fields = refusal (suc n)
 
 -- what `build_sdb` answers
 unfoldable pub syncBurst : List ℕ → List ℕ → List ℕ → BuilderReply
-syncBurst blk1 bbk blk2 = answered (blockRefusal 120 blk1 bbk blk2 accepted) syncCut (syncFields blk1 bbk blk2)
+syncBurst blk1 bbk blk2 = burstUnless (blockRefusal 120 blk1 bbk blk2 accepted) syncCut (syncFields blk1 bbk blk2)
 
 -- what `build_ndb` answers
 unfoldable pub normalBurst : ℕ → List ℕ → List ℕ → List ℕ → BuilderReply
 normalBurst n blk1 bbk blk2 =
-    answered (blockRefusal 216 blk1 bbk blk2 (trainingRefusal n)) normalCut (normalFields (trainingOf n) blk1 bbk blk2)
+    burstUnless (blockRefusal 216 blk1 bbk blk2 (trainingRefusal n)) normalCut (normalFields (trainingOf n) blk1 bbk blk2)

@@ -19,7 +19,7 @@ ghost use Rattle.dsp_types.specs.Refusals.{wrongLength};
 ghost use Rattle.train_consts.specs.Training.{normal3};
 ghost use Rattle.dsp_types.specs.Phases.{phaseOf, modulo8};
 ghost use Rattle.slotter.specs.Phases.{phaseSum, adjustment};
-ghost use Rattle.slotter.specs.Bursts.{trainingOf, blockRefusal, trainingRefusal, builderReply, refusal, answered, syncBurst, normalBurst};
+ghost use Rattle.slotter.specs.Bursts.{trainingOf, blockRefusal, trainingRefusal, builderReply, refusal, burstUnless, syncBurst, normalBurst};
 
 // How a builder answers. The bits stand beside it, since an enum holds no array.
 pub enum Answer {
@@ -169,7 +169,7 @@ fn framed(bits: [u8; 510], first: [u8; 2], last: [u8; 2]) -> [u8; 510]
 // The burst with the fields that stand at 14 to 498. Its first window ends with the symbol `last`.
 fn adjusted(bits: [u8; 510], last: usize) -> Burst
     requires { ⌜ (7 ≤ last) × (last ≤ 249) × (last % 2 ≡ 0) ⌝ }
-    ensures { λ r. ⌜ builderReply r ≡ answered 0 last (take 484 (drop 14 bits)) ⌝ }
+    ensures { λ r. ⌜ builderReply r ≡ burstUnless 0 last (take 484 (drop 14 bits)) ⌝ }
 {
     let cut = 2 * last;
     let first_sum = sum_up_phase(&bits[14..cut]);
@@ -183,7 +183,7 @@ fn adjusted(bits: [u8; 510], last: usize) -> Burst
 // The burst of five fields, 484 bits in all, whose first window ends with the symbol `last`.
 fn joined(last: usize, a: &[u8], b: &[u8], c: &[u8], d: &[u8], e: &[u8]) -> Burst
     requires { ⌜ (7 ≤ last) × (last ≤ 249) × (last % 2 ≡ 0) × (length (now a) + length (now b) + length (now c) + length (now d) + length (now e) ≡ 484) ⌝ }
-    ensures { λ r. ⌜ builderReply r ≡ answered 0 last (now (a .entry) ++ now (b .entry) ++ now (c .entry) ++ now (d .entry) ++ now (e .entry)) ⌝ }
+    ensures { λ r. ⌜ builderReply r ≡ burstUnless 0 last (now (a .entry) ++ now (b .entry) ++ now (c .entry) ++ now (d .entry) ++ now (e .entry)) ⌝ }
 {
     let mut bits = [0; 510];
     let mut at = put(&mut bits, 14, a);
