@@ -8,8 +8,8 @@ use Rattle.dsp_types.specs.Refusals.{accepted, badLength, badBit, badTraining, 
 use Rattle.slotter.specs.Bursts.{BuilderReply, refusal, syncBurst, normalBurst}
 
 -- the burst type that a letter asks for (01, "Slot bits and burst views"): S 4, N 1, P 2, another letter 0
-unfoldable pub typeOf : ℕ → ℕ
-typeOf letter = cond (eqb letter 83) 4 (cond (eqb letter 78) 1 (cond (eqb letter 80) 2 0))
+unfoldable pub letterType : ℕ → ℕ
+letterType letter = cond (eqb letter 83) 4 (cond (eqb letter 78) 1 (cond (eqb letter 80) 2 0))
 
 -- how many characters the blocks of a type have
 unfoldable pub wanted : ℕ → ℕ
@@ -36,8 +36,8 @@ refusalOf type characters =
     (cond (eqb type 0) badTraining accepted))
 
 -- the bit that a character stands for
-unfoldable pub bitOf : ℕ → ℕ
-bitOf c = cond (eqb c 49) 1 0
+unfoldable pub characterBit : ℕ → ℕ
+characterBit c = cond (eqb c 49) 1 0
 
 -- the burst of a type, from its blocks' bits in burst order
 unfoldable pub burstOf : ℕ → List ℕ → BuilderReply
@@ -50,5 +50,5 @@ unfoldable pub answerOf : ℕ → List ℕ → BuilderReply
 answerOf type characters = pick (refusalOf type characters)
   where
     pick : ℕ → BuilderReply
-    pick zero = burstOf type (map bitOf characters)
+    pick zero = burstOf type (map characterBit characters)
     pick (suc n) = refusal (suc n)
