@@ -23,7 +23,7 @@ use Rattle.fir.proofs.Rows.{rest}
 use Rattle.mapper.specs.declared.Due.{Due}
 use Rattle.mapper.specs.declared.Due.the-variants.{Refused, Silence, Symbol}
 use Rattle.mapper.specs.Dqpsk.{phaseAfter, inputOf}
-use Rattle.mapper.specs.Due.{inputRefusal, startOf, placeIn, symbolAt, dueIn, dueAt, dueIf, dueOf, refusalOf}
+use Rattle.mapper.specs.Due.{inputRefusal, startOf, placeIn, symbolDue, dueIn, dueAt, dueIf, dueOf, dueRefusal}
 use Rattle.modulator.specs.Sender.{shapedOf, toldOf, nextLine, SenderReply, Sender, filterInput, tells, senderAfter}
 use Rattle.modulator.specs.Blocks.{SentBlock, joinedIf, joined, sentBlock, blockCall, dueAfter, partsOf, Wrote, placeDue, inputsOf, phasesOf, fedBlock, leftOf}
 use Rattle.mapper.proofs.Places.{true-ne, early, late, within, slot-accepted}
@@ -111,10 +111,10 @@ module _ (due other : ℕ → Due) where
 
 module _ (m start : ℕ) (b : Bool) (bits : List ℕ) where
   sends-in : (p : ℕ) → Sends (dueIn b bits p)
-  unfolding dueIn symbolAt
+  unfolding dueIn symbolDue
   sends-in p = go (b && eqb (p % 4) 0)
     where
-      go : (t : Bool) → Sends (cond t (symbolAt bits p) Silence)
+      go : (t : Bool) → Sends (cond t (symbolDue bits p) Silence)
       go true = tt
       go false = tt
 
@@ -340,17 +340,17 @@ first-due first slot b bits =
     let f : first +ℤ pos 0 ≡ first = same (first +ℤ pos 0) first (omega (arith, sum first (pos 0))) in
     rw f
 
-refused-due : (r : ℕ) (d : Due) → suc r ≡ refusalOf d → d ≡ Refused (suc r)
-unfolding refusalOf
+refused-due : (r : ℕ) (d : Due) → suc r ≡ dueRefusal d → d ≡ Refused (suc r)
+unfolding dueRefusal
 refused-due r (Refused n) e = ap Refused (sym e)
 refused-due r Silence e = absurd (omega (arith, e))
 refused-due r (Symbol bit0 bit1) e = absurd (omega (arith, e))
 
 -- it is refused, or there is no room for it
-pub none-sent : (first : ℤ) (slot : ℕ) (b : Bool) (bits : List ℕ) (r room : ℕ) (s : Sender) (out : List Float) → r ≡ refusalOf (dueOf first slot b bits) → (not (eqb r 0) || eqb room 0) ≡ true
+pub none-sent : (first : ℤ) (slot : ℕ) (b : Bool) (bits : List ℕ) (r room : ℕ) (s : Sender) (out : List Float) → r ≡ dueRefusal (dueOf first slot b bits) → (not (eqb r 0) || eqb room 0) ≡ true
     → Wrote (blockCall (dueAfter first slot b bits) room s) 0 r s out out
 unfolding blockCall partsOf startWith
-none-sent first slot b bits r zero s out e h = record { counted = refl; refused = e ∙ ap refusalOf (sym (first-due first slot b bits)); sent = refl; written = refl }
+none-sent first slot b bits r zero s out e h = record { counted = refl; refused = e ∙ ap dueRefusal (sym (first-due first slot b bits)); sent = refl; written = refl }
 none-sent first slot b bits zero (suc room) s out e h = absurd (true-ne (sym h ∙ eqb·suc-zero room))
 none-sent first slot b bits (suc r) (suc room) s out e h =
     rw (stopped (dueAfter first slot b bits) room 0 r s (first-due first slot b bits ∙ refused-due r _ e)) (record { counted = refl; refused = refl; sent = refl; written = refl })
@@ -367,8 +367,8 @@ module _ (r room : ℕ) (h : (not (eqb r 0) || eqb room 0) ≡ false) where
   pub some-room : 0 < room
   some-room = let n = eqb-false room 0 (neither (not (eqb r 0)) (eqb room 0) h .1) in ⊎-elim (λ (l : 1 ≤ room). l) (λ (l : room < 1). absurd (n (omega arith))) (le-or-lt 1 room)
 
-pub input-accepted : (n : ℕ) (d : Due) → refusalOf (dueIf n d) ≡ 0 → n ≡ 0
-unfolding dueIf refusalOf
+pub input-accepted : (n : ℕ) (d : Due) → dueRefusal (dueIf n d) ≡ 0 → n ≡ 0
+unfolding dueIf dueRefusal
 input-accepted zero d e = refl
 input-accepted (suc n) d e = e
 
@@ -377,15 +377,15 @@ unfolding blockCall
 room-called due zero s h = absurd (omega arith)
 room-called due (suc room) s h = refl
 
-pub some-left : (m slot : ℕ) (b : Bool) (bits : List ℕ) → inputRefusal (pos m) slot b bits ≡ 0 → m ≤ lastCounter → refusalOf (dueOf (pos m) slot b bits) ≡ 0 → 0 < leftOf m (startOf slot)
-unfolding refusalOf
+pub some-left : (m slot : ℕ) (b : Bool) (bits : List ℕ) → inputRefusal (pos m) slot b bits ≡ 0 → m ≤ lastCounter → dueRefusal (dueOf (pos m) slot b bits) ≡ 0 → 0 < leftOf m (startOf slot)
+unfolding dueRefusal
 some-left m slot b bits h l e = go (leftOf m (startOf slot)) refl
   where
     go : (n : ℕ) → leftOf m (startOf slot) ≡ n → 0 < n
     go (suc n) f = omega arith
     go zero f =
         let d = past m slot b bits h (omega arith) in
-        absurd (omega (arith, sym e ∙ ap refusalOf (sym (first-due (pos m) slot b bits) ∙ rw f at d)))
+        absurd (omega (arith, sym e ∙ ap dueRefusal (sym (first-due (pos m) slot b bits) ∙ rw f at d)))
 
 pub fed-count : (due : ℕ → Due) (n r count refusal : ℕ) (s t : Sender) (out out′ : List Float) → Wrote (fedBlock due n r s) count refusal t out out′ → count ≡ n
 unfolding fedBlock

@@ -11,7 +11,7 @@ use Rattle.dsp_types.specs.Refusals.{accepted, counters}
 use Rattle.fir.specs.Fir.{lineAfter, outsOf, startWith}
 use Rattle.mapper.specs.declared.Due.{Due}
 use Rattle.mapper.specs.Dqpsk.{phaseAfter, inputOf}
-use Rattle.mapper.specs.Due.{placeIn, dueAt, dueOf, refusalOf}
+use Rattle.mapper.specs.Due.{placeIn, dueAt, dueOf, dueRefusal}
 use Rattle.modulator.specs.Sender.{SenderReply, Sender, tells, senderAfter}
 
 -- the samples, oldest first, the number of the refusal that stopped them, if any, and the sender then
@@ -36,7 +36,7 @@ sentBlock due (suc n) i s = joined (tells s (due i)) (senderAfter s (due i)) (se
 
 -- a block call with room for n samples. It is refused first, whatever the room is (01, "The sender": checked in every call)
 unfoldable pub blockCall : (ℕ → Due) → ℕ → Sender → SentBlock
-blockCall due zero s = record { outs = []; refusal = refusalOf (due 0); sender = s }
+blockCall due zero s = record { outs = []; refusal = dueRefusal (due 0); sender = s }
 blockCall due (suc n) s = sentBlock due (suc n) 0 s
 
 -- what is due i samples after the first
