@@ -10,7 +10,7 @@ use Rattle.slotter.specs.declared.Burst.{Burst}
 use Rattle.slotter.specs.declared.Answer.{Answer}
 use Rattle.slotter.specs.declared.Answer.the-variants.{Built, Refused}
 use Rattle.slotter.specs.Bursts.{BuilderReply, builderReply}
-use Rattle.modem.specs.Build.{unless, buildRefusal, lentBurst}
+use Rattle.modem.specs.Build.{lentUnless, buildRefusal, lentBurst}
 
 -- ---- the copy
 
@@ -45,7 +45,7 @@ module _ (burst : BuilderReply) (bits : List ℕ) where
     bad-room = rw (ne-eqb (length bits) 510 n)
 
     pub kept-room : bits ≡ lentBurst burst bits
-    unfolding lentBurst unless
+    unfolding lentBurst lentUnless
     kept-room = rw (← bad-room)
 
   module _ (e : length bits ≡ 510) (number : ℕ) (t : number ≡ burst .number) where
@@ -54,13 +54,13 @@ module _ (burst : BuilderReply) (bits : List ℕ) where
     builder's = rw (eq-eqb (length bits) 510 e) t
 
     pub filled : number ≡ 0 → burst .bits ≡ lentBurst burst bits
-    unfolding lentBurst unless
+    unfolding lentBurst lentUnless
     filled z = rw (← builder's, z)
 
     pub kept : (number ≡ 0 → ⊥) → bits ≡ lentBurst burst bits
-    unfolding lentBurst unless
+    unfolding lentBurst lentUnless
     kept z = rw (← builder's) (go number z)
       where
-        go : (m : ℕ) → (m ≡ 0 → ⊥) → bits ≡ unless m (burst .bits) bits
+        go : (m : ℕ) → (m ≡ 0 → ⊥) → bits ≡ lentUnless m (burst .bits) bits
         go zero z = absurd (z refl)
         go (suc m) z = refl

@@ -10,10 +10,10 @@ unfoldable pub buildRefusal : BuilderReply → List ℕ → ℕ
 buildRefusal burst bits = cond (wrongLength 510 bits) badLength (burst .number)
 
 -- 01, "Refusals": a refusal changes nothing
-unfoldable pub unless : ℕ → List ℕ → List ℕ → List ℕ
-unless zero after before = after
-unless (suc n) after before = before
+unfoldable pub lentUnless : ℕ → List ℕ → List ℕ → List ℕ
+lentUnless zero after before = after
+lentUnless (suc n) after before = before
 
 -- 01, "Burst bits": the lent bytes after a call: the burst, or as they were
 unfoldable pub lentBurst : BuilderReply → List ℕ → List ℕ
-lentBurst burst bits = unless (buildRefusal burst bits) (burst .bits) bits
+lentBurst burst bits = lentUnless (buildRefusal burst bits) (burst .bits) bits

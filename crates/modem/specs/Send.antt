@@ -17,10 +17,10 @@ unfoldable pub senderIn : TetraSender → Sender
 senderIn s = senderOf (s .modulator) (s .mapper)
 
 -- the first sample of a list; silence where it has none
-unfoldable pub firstOf : List ComplexSample → ComplexSample
-firstOf [] = silence
-firstOf (x ∷ xs) = x
+unfoldable pub firstOrSilence : List ComplexSample → ComplexSample
+firstOrSilence [] = silence
+firstOrSilence (x ∷ xs) = x
 
 -- the sample that an answer carries; a refusal carries none
 unfoldable pub sampleTold : SenderReply → ComplexSample
-sampleTold t = firstOf (t .samples)
+sampleTold t = firstOrSilence (t .samples)
