@@ -13,7 +13,7 @@ use Rattle.train_consts.specs.Training.{synchronization, normal1, normal2}
 use Rattle.burst_finder.specs.Search.{hammingDistance, errorsAt}
 use Rattle.burst_finder.proofs.Distance.{distance-take}
 use Rattle.burst_finder.proofs.Downlink.{flipped, downlink, sync-type, normal1-type, normal2-type}
-use Rattle.slotter.specs.Bursts.{blockRefusal, trainingRefusal, trainingOf, answered, refusal, normalBurst}
+use Rattle.slotter.specs.Bursts.{blockRefusal, trainingRefusal, trainingOf, burstUnless, refusal, normalBurst}
 use Rattle.slotter.proofs.Places.{sync-places, normal-places}
 use Rattle.rx_slot.specs.Views.{viewOn, checked}
 use Rattle.account.specs.Rules.{typeOf}
@@ -38,8 +38,8 @@ unfolding synchronization normal1 normal2
 lengths = (refl, refl, refl)
 
 -- a normal burst that is not refused has training sequence 1 or 2
-accepted-number : (n last : ℕ) (fields : List ℕ) → answered n last fields .number ≡ n
-unfolding answered refusal
+accepted-number : (n last : ℕ) (fields : List ℕ) → burstUnless n last fields .number ≡ n
+unfolding burstUnless refusal
 accepted-number zero last fields = refl
 accepted-number (suc n) last fields = refl
 

@@ -9,7 +9,7 @@ use lib.ListN.{length, take}
 use lib.IntN.{ℤ, pos, _+ℤ_}
 use lib.Dec.{ltb, leb}
 use Rattle.dsp_types.specs.declared.ComplexSample.{ComplexSample}
-use Rattle.dsp_types.specs.Refusals.{accepted, badLength, noSlot, notFollowing, wrongLength}
+use Rattle.dsp_types.specs.Refusals.{accepted, badLength, noSlotWaits, notFollowing, wrongLength}
 use Rattle.burst_finder.specs.Search.{hammingDistance}
 use Rattle.slotter.specs.Bursts.{syncBurst, normalBurst}
 use Rattle.slot_receiver.specs.declared.Mode.{Mode}
@@ -177,7 +177,7 @@ answered n = ifAccepted n done (refused n)
 -- what a take is to be answered: refusal 3, refusal 11, or the slot
 unfoldable pub toldTake : Bool → Waiting → Reply HandedSlot
 toldTake false w = refused badLength
-toldTake true nothing = refused noSlot
+toldTake true nothing = refused noSlotWaits
 toldTake true (waits h) = took h
 
 -- what a call is to be answered after the calls cs

@@ -8,7 +8,7 @@ use lib.Dec.{eqb}
 use lib.ListN.{length, take, drop, length-map}
 use borrow.Author.Tests.{eq-eqb, ne-eqb}
 use Rattle.slotter.specs.Bursts.{syncBurst, normalBurst}
-use Rattle.block_text.specs.BlockText.{wanted, bitOf, burstOf}
+use Rattle.block_text.specs.BlockText.{wanted, characterBit, burstOf}
 use Rattle.block_text.proofs.Characters.{part, rest}
 
 pub wanted-most : (type : ℕ) → wanted type ≤ 462
@@ -19,18 +19,18 @@ wanted-most type = go (eqb type 4)
     go true = omega arith
     go false = omega arith
 
-pub sync-blocks : {w : List ℕ} (kind : ℕ) (cs z : List ℕ) → kind ≡ 4 → length cs ≡ wanted kind → w ≡ map bitOf cs ++ z
-    → syncBurst (take 120 w) (take 30 (drop 120 w)) (take 216 (drop 150 w)) ≡ burstOf kind (map bitOf cs)
+pub sync-blocks : {w : List ℕ} (kind : ℕ) (cs z : List ℕ) → kind ≡ 4 → length cs ≡ wanted kind → w ≡ map characterBit cs ++ z
+    → syncBurst (take 120 w) (take 30 (drop 120 w)) (take 216 (drop 150 w)) ≡ burstOf kind (map characterBit cs)
 unfolding wanted burstOf
 sync-blocks kind cs z k n e =
-    let M : List ℕ = map bitOf cs in
-    let l : length M ≡ 366 = length-map cs bitOf ∙ (rw (eq-eqb kind 4 k) at n) in
+    let M : List ℕ = map characterBit cs in
+    let l : length M ≡ 366 = length-map cs characterBit ∙ (rw (eq-eqb kind 4 k) at n) in
     rw (e, eq-eqb kind 4 k, part M z 0 120 (omega arith), part M z 120 30 (omega arith), rest M z 150 216 (omega arith))
 
-pub normal-blocks : {w : List ℕ} (kind : ℕ) (cs z : List ℕ) → (kind ≡ 4 → ⊥) → length cs ≡ wanted kind → w ≡ map bitOf cs ++ z
-    → normalBurst kind (take 216 w) (take 30 (drop 216 w)) (take 216 (drop 246 w)) ≡ burstOf kind (map bitOf cs)
+pub normal-blocks : {w : List ℕ} (kind : ℕ) (cs z : List ℕ) → (kind ≡ 4 → ⊥) → length cs ≡ wanted kind → w ≡ map characterBit cs ++ z
+    → normalBurst kind (take 216 w) (take 30 (drop 216 w)) (take 216 (drop 246 w)) ≡ burstOf kind (map characterBit cs)
 unfolding wanted burstOf
 normal-blocks kind cs z k n e =
-    let M : List ℕ = map bitOf cs in
-    let l : length M ≡ 462 = length-map cs bitOf ∙ (rw (ne-eqb kind 4 k) at n) in
+    let M : List ℕ = map characterBit cs in
+    let l : length M ≡ 462 = length-map cs characterBit ∙ (rw (ne-eqb kind 4 k) at n) in
     rw (e, ne-eqb kind 4 k, part M z 0 216 (omega arith), part M z 216 30 (omega arith), rest M z 246 216 (omega arith))

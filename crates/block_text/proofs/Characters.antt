@@ -8,7 +8,7 @@ use native.Mathlib.Numerals.{add-one}
 use native.Mathlib.Omega.{arith}
 use lib.ListN.{length, take, drop, getD, set, length-map, List·getD-map, drop-of-length-le, length-drop}
 use lib.Seq.{drop-cons, paste-suc, take-append-le, drop-append-le, take-all}
-use Rattle.block_text.specs.BlockText.{notCharacter, notCharacters, bitOf}
+use Rattle.block_text.specs.BlockText.{notCharacter, notCharacters, characterBit}
 
 -- ---- one more character is looked at
 
@@ -37,14 +37,14 @@ more d s i v h k e =
     let y : 0 + suc i ≡ suc i = zero-add (suc i) in
     rw (← e, add-one i) (rw (z, y) at (paste-suc d 0 s i 0 (omega arith) k))
 
-pub bit-more : {w : List ℕ} {v : ℕ} (d cs : List ℕ) (i : ℕ) → w ≡ take i (map bitOf cs) ++ drop i d → v ≡ bitOf (getD cs i 0) → i < length d → i < length cs
-    → set w i v ≡ take (i + 1) (map bitOf cs) ++ drop (i + 1) d
-unfolding bitOf
+pub bit-more : {w : List ℕ} {v : ℕ} (d cs : List ℕ) (i : ℕ) → w ≡ take i (map characterBit cs) ++ drop i d → v ≡ characterBit (getD cs i 0) → i < length d → i < length cs
+    → set w i v ≡ take (i + 1) (map characterBit cs) ++ drop (i + 1) d
+unfolding characterBit
 bit-more d cs i e f h k =
-    rw (e, f) (more d (map bitOf cs) i (bitOf (getD cs i 0)) h (omega (arith, length-map cs bitOf)) (List·getD-map bitOf cs i 0))
+    rw (e, f) (more d (map characterBit cs) i (characterBit (getD cs i 0)) h (omega (arith, length-map cs characterBit)) (List·getD-map characterBit cs i 0))
 
-pub bit-none : (d cs : List ℕ) (i : ℕ) → i ≡ length cs → take i (map bitOf cs) ++ drop i d ≡ map bitOf cs ++ drop (length cs) d
-bit-none d cs i e = rw (e, take-all (length cs) (map bitOf cs) (omega (arith, length-map cs bitOf)))
+pub bit-none : (d cs : List ℕ) (i : ℕ) → i ≡ length cs → take i (map characterBit cs) ++ drop i d ≡ map characterBit cs ++ drop (length cs) d
+bit-none d cs i e = rw (e, take-all (length cs) (map characterBit cs) (omega (arith, length-map cs characterBit)))
 
 -- a part of what stands first
 pub part : (M z : List ℕ) (a n : ℕ) → a + n ≤ length M → take n (drop a (M ++ z)) ≡ take n (drop a M)

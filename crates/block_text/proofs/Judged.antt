@@ -9,7 +9,7 @@ use lib.ListN.{length}
 use Rattle.dsp_types.proofs.Laws.{right-length}
 use Rattle.dsp_types.specs.Refusals.{wrongLength}
 use Rattle.slotter.specs.Bursts.{refusal}
-use Rattle.block_text.specs.BlockText.{wanted, notCharacters, wrongCount, refusalOf, bitOf, burstOf, answerOf}
+use Rattle.block_text.specs.BlockText.{wanted, notCharacters, wrongCount, refusalOf, characterBit, burstOf, answerOf}
 
 -- an answer, by its refusal
 pub refuses : (k n : ℕ) (cs : List ℕ) → n ≡ refusalOf k cs → (n ≡ 0 → ⊥) → refusal n ≡ answerOf k cs
@@ -17,7 +17,7 @@ unfolding answerOf
 refuses k zero cs e z = absurd (z refl)
 refuses k (suc n) cs e z = rw (← e)
 
-pub accepts : (k n : ℕ) (cs : List ℕ) → n ≡ refusalOf k cs → n ≡ 0 → burstOf k (map bitOf cs) ≡ answerOf k cs
+pub accepts : (k n : ℕ) (cs : List ℕ) → n ≡ refusalOf k cs → n ≡ 0 → burstOf k (map characterBit cs) ≡ answerOf k cs
 unfolding answerOf
 accepts k n cs e z = rw (← e, z)
 

@@ -5,7 +5,7 @@ use mathlib.Core.List.{List, [], _∷_}
 use lib.Dec.{eqb}
 use lib.ListN.{length, drop}
 use Rattle.text.specs.Text.{ascii, trimmed}
-use Rattle.slotter.specs.Bursts.{Told}
+use Rattle.slotter.specs.Bursts.{BuilderReply}
 use Rattle.block_text.specs.declared.line.Asked.{Asked}
 use Rattle.block_text.specs.BlockText.{answerOf}
 use Rattle.block_text.specs.declared.line.Asked.the-variants.{Nothing, Empty, Burst, Unknown}
@@ -41,7 +41,7 @@ asked line =
 -- what a wish comes to: the blocks of a burst are answered
 pub data Sent : Type 0 where
   passed quiet reported : Sent
-  answered : ℕ → Told → Sent
+  answered : ℕ → BuilderReply → Sent
 
 unfoldable pub sentFor : Wish → Sent
 sentFor none = passed

@@ -15,12 +15,12 @@ ghost use mathlib.Core.Path.{_≡_};
 ghost use Prim.Native.Nat.{_≤_};
 ghost use mathlib.Core.List.{_++_, map};
 ghost use lib.ListN.{length, drop, replicate};
-ghost use Rattle.slotter.specs.Bursts.{told};
-ghost use Rattle.block_text.specs.BlockText.{typeOf, wanted, notCharacter, notCharacters, wrongCount, refusalOf, bitOf, burstOf, answerOf};
+ghost use Rattle.slotter.specs.Bursts.{builderReply};
+ghost use Rattle.block_text.specs.BlockText.{letterType, wanted, notCharacter, notCharacters, wrongCount, refusalOf, characterBit, burstOf, answerOf};
 
 // The burst type that a letter asks for: S 4, N 1, P 2, another letter 0.
 pub fn type_of(letter: u8) -> u32
-    ensures { λ r. ⌜ r ≡ typeOf letter ⌝ }
+    ensures { λ r. ⌜ r ≡ letterType letter ⌝ }
 {
     if letter == b'S' {
         4
@@ -82,7 +82,7 @@ fn refusal_of(kind: u32, characters: &[u8]) -> u32
 
 // The bit that a character stands for.
 fn bit_of(c: u8) -> u8
-    ensures { λ r. ⌜ r ≡ bitOf c ⌝ }
+    ensures { λ r. ⌜ r ≡ characterBit c ⌝ }
 {
     if c == b'1' { 1 } else { 0 }
 }
@@ -90,7 +90,7 @@ fn bit_of(c: u8) -> u8
 // The bits that at most 462 characters stand for, and zeros behind them.
 fn bits_of(characters: &[u8]) -> [u8; 462]
     requires { ⌜ length (now characters) ≤ 462 ⌝ }
-    ensures { λ r. ⌜ r ≡ map bitOf (now (characters .entry)) ++ drop (length (now (characters .entry))) (replicate 462 0) ⌝ }
+    ensures { λ r. ⌜ r ≡ map characterBit (now (characters .entry)) ++ drop (length (now (characters .entry))) (replicate 462 0) ⌝ }
 {
     let mut bits = [0; 462];
     for i in 0..characters.len() {
@@ -102,7 +102,7 @@ fn bits_of(characters: &[u8]) -> [u8; 462]
 // The burst of a type, from the characters of its blocks.
 fn burst_of(kind: u32, characters: &[u8]) -> Burst
     requires { ⌜ length (now characters) ≡ wanted kind ⌝ }
-    ensures { λ r. ⌜ told r ≡ burstOf kind (map bitOf (now (characters .entry))) ⌝ }
+    ensures { λ r. ⌜ builderReply r ≡ burstOf kind (map characterBit (now (characters .entry))) ⌝ }
 {
     let all = bits_of(characters);
     let bits: &[u8] = &all;
@@ -116,7 +116,7 @@ fn burst_of(kind: u32, characters: &[u8]) -> Burst
 // The burst of a type, 4 sync, 1 or 2 normal, from its blocks' bits in burst order as characters 0 and 1, or their
 // refusal: 3, 4, or 5 for another type. For type 0, another letter, no length is judged.
 pub fn answer(kind: u32, characters: &[u8]) -> Burst
-    ensures { λ r. ⌜ told r ≡ answerOf kind (now (characters .entry)) ⌝ }
+    ensures { λ r. ⌜ builderReply r ≡ answerOf kind (now (characters .entry)) ⌝ }
 {
     let number = refusal_of(kind, characters);
     if number != ACCEPTED {

@@ -12,7 +12,7 @@ use lib.Ieee.{Float, nan, inf, fin, binary32, isNan, ne, ofBits, toBits}
 use lib.Ieee.Bits.{nanBits-is, nanBits-above}
 use lib.Ieee.Compare.{differs-from-itself}
 use borrow.Author.Tests.{lt-ltb}
-use Rattle.cf32.specs.Parts.{wordOf, partsIn, wordBytes, bytesOf}
+use Rattle.cf32.specs.Parts.{wordOf, partsIn, wordBytes, partBytes}
 
 -- ---- NaN
 
@@ -87,8 +87,8 @@ module _ (n a b c d : ℕ) (bytes : List ℕ) (h : 4 * n + 3 < length bytes) whe
   four-left : drop (4 * (n + 1)) four ≡ drop (4 * n + 4) bytes
   four-left = rw stored (drop-at (take (4 * n) bytes ++ (a ∷ b ∷ c ∷ d ∷ [])) (drop (4 * n + 4) bytes) (4 * (n + 1)) front)
 
-bytes-append : (xs : List Float) (x : Float) → bytesOf (xs ++ (x ∷ [])) ≡ bytesOf xs ++ wordBytes (toBits binary32 x)
-unfolding bytesOf wordBytes
+bytes-append : (xs : List Float) (x : Float) → partBytes (xs ++ (x ∷ [])) ≡ partBytes xs ++ wordBytes (toBits binary32 x)
+unfolding partBytes wordBytes
 bytes-append [] x = refl
 bytes-append (y ∷ xs) x = ap (λ (l : List ℕ). wordBytes (toBits binary32 y) ++ l) (bytes-append xs x)
 
@@ -97,11 +97,11 @@ module _ (n w : ℕ) (parts : List Float) (bytes bytes₀ : List ℕ) (h : 4 * n
   abbrev stored-word : List ℕ
   stored-word = set (set (set (set bytes (4 * n) (w % 0x100)) (4 * n + 1) (w / 0x100 % 0x100)) (4 * n + 2) (w / 0x1_0000 % 0x100)) (4 * n + 3) (w / 0x100_0000)
 
-  pub word-turn : n < length parts → w ≡ toBits binary32 (getD parts n nan) → take (4 * n) bytes ≡ bytesOf (take n parts) → take (4 * (n + 1)) stored-word ≡ bytesOf (take (n + 1) parts)
+  pub word-turn : n < length parts → w ≡ toBits binary32 (getD parts n nan) → take (4 * n) bytes ≡ partBytes (take n parts) → take (4 * (n + 1)) stored-word ≡ partBytes (take (n + 1) parts)
   unfolding wordBytes
   word-turn l e inv =
       four-taken n _ _ _ _ bytes h ∙ ap (λ (t : List ℕ). t ++ wordBytes w) inv
-      ∙ rw (e) (sym (bytes-append (take n parts) (getD parts n nan)) ∙ ap bytesOf (sym (take-suc parts n nan l)) ∙ ap (λ (m : ℕ). bytesOf (take m parts)) (sym (add-one n)))
+      ∙ rw (e) (sym (bytes-append (take n parts) (getD parts n nan)) ∙ ap partBytes (sym (take-suc parts n nan l)) ∙ ap (λ (m : ℕ). partBytes (take m parts)) (sym (add-one n)))
 
   pub left-turn : drop (4 * n) bytes ≡ drop (4 * n) bytes₀ → drop (4 * (n + 1)) stored-word ≡ drop (4 * (n + 1)) bytes₀
   left-turn inv =

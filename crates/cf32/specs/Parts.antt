@@ -20,6 +20,6 @@ unfoldable pub wordBytes : ℕ → List ℕ
 wordBytes w = w % 0x100 ∷ w / 0x100 % 0x100 ∷ w / 0x1_0000 % 0x100 ∷ w / 0x100_0000 ∷ []
 
 -- the bytes of parts
-unfoldable pub bytesOf : List Float → List ℕ
-bytesOf [] = []
-bytesOf (x ∷ xs) = wordBytes (toBits binary32 x) ++ bytesOf xs
+unfoldable pub partBytes : List Float → List ℕ
+partBytes [] = []
+partBytes (x ∷ xs) = wordBytes (toBits binary32 x) ++ partBytes xs

@@ -5,7 +5,7 @@ ghost use mathlib.Core.List.{_++_};
 ghost use Prim.Native.Nat.{_*_, _/_, min};
 ghost use lib.ListN.{length, take, drop};
 ghost use lib.Ieee.{binary32, ofBits, toBits};
-ghost use Rattle.cf32.specs.Parts.{wordOf, partsIn, bytesOf};
+ghost use Rattle.cf32.specs.Parts.{wordOf, partsIn, partBytes};
 
 fn wide(byte: u8) -> u32
     ensures { λ r. ⌜ r ≡ byte ⌝ }
@@ -58,7 +58,7 @@ pub fn decode(bytes: &[u8], parts: &mut [f32]) -> usize
 // Writes parts to the start of a buffer, as many as it has room for, and tells how many.
 pub fn encode(parts: &[f32], bytes: &mut [u8]) -> usize
     ensures count { λ r. ⌜ r ≡ min (length (now (parts .entry))) (length (now (bytes .entry)) / 4) ⌝ }
-    ensures bytes { λ r. ⌜ now (bytes .exit) ≡ bytesOf (take r (now (parts .entry))) ++ drop (4 * r) (now (bytes .entry)) ⌝ }
+    ensures bytes { λ r. ⌜ now (bytes .exit) ≡ partBytes (take r (now (parts .entry))) ++ drop (4 * r) (now (bytes .entry)) ⌝ }
 {
     let count = least(parts.len(), bytes.len() / 4);
     for n in 0..count {

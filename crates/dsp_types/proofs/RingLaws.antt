@@ -10,7 +10,7 @@ use lib.ListN.{length, getD, set, take, replicate, getD-replicate}
 use lib.Seq.{getD-set-same, getD-set-other}
 use lib.Ieee.{Float, nan}
 use Rattle.dsp_types.specs.declared.ComplexSample.{ComplexSample}
-use Rattle.dsp_types.specs.Samples.{newer, ago, zeroF, silence}
+use Rattle.dsp_types.specs.Samples.{oneLater, ago, zeroF, silence}
 use Rattle.dsp_types.specs.Ring.{placeOf, next, ringAt, ringSample, Agree, newest}
 
 pub le-or-lt : (a b : ℕ) → (a ≤ b) ⊎ (b < a)
@@ -74,28 +74,28 @@ place-apart n at d h k e =
     (le-or-lt (suc (at + 1)) n)
 
 -- The law of a store: x is the newest now, and what was d steps ago is d + 1 steps ago.
-pub ring-newer : {A : Type 0} (z : A) (n : ℕ) (buf : List A) (at : ℕ) (x : A) → length buf ≡ n → at < n
-    → (d : ℕ) → d < n → ringAt z n (set buf (next n at) x) (next n at) d ≡ newer x (ringAt z n buf at) d
+pub ring-later : {A : Type 0} (z : A) (n : ℕ) (buf : List A) (at : ℕ) (x : A) → length buf ≡ n → at < n
+    → (d : ℕ) → d < n → ringAt z n (set buf (next n at) x) (next n at) d ≡ oneLater x (ringAt z n buf at) d
 unfolding ringAt
-ring-newer z n buf at x w h zero k =
+ring-later z n buf at x w h zero k =
     rw (place-newest n (next n at) (next-lt n at h)) (getD-set-same buf (next n at) x z (omega (arith, next-lt n at h)))
-ring-newer z n buf at x w h (suc d) k =
+ring-later z n buf at x w h (suc d) k =
     rw (place-older n at d h k) (getD-set-other buf (next n at) (placeOf n at d) x z (place-apart n at d h k))
 
 -- what is newer than a list's elements is the list with one more
-pub newer-ago : {A : Type 0} (x z : A) (xs : List A) (d : ℕ) → newer x (ago z xs) d ≡ ago z (x ∷ xs) d
-newer-ago x z xs zero = refl
-newer-ago x z xs (suc d) = refl
+pub later-ago : {A : Type 0} (x z : A) (xs : List A) (d : ℕ) → oneLater x (ago z xs) d ≡ ago z (x ∷ xs) d
+later-ago x z xs zero = refl
+later-ago x z xs (suc d) = refl
 
 -- ---- two rings that hold the parts of samples, with one index
 
-pub sample-newer : (n : ℕ) (re im : List Float) (at : ℕ) (x : ComplexSample) → length re ≡ n → length im ≡ n → at < n
-    → Agree n (ringSample n (set re (next n at) (x .re)) (set im (next n at) (x .im)) (next n at)) (newer x (ringSample n re im at))
+pub sample-later : (n : ℕ) (re im : List Float) (at : ℕ) (x : ComplexSample) → length re ≡ n → length im ≡ n → at < n
+    → Agree n (ringSample n (set re (next n at) (x .re)) (set im (next n at) (x .im)) (next n at)) (oneLater x (ringSample n re im at))
 unfolding ringSample
-sample-newer n re im at x v w h zero k =
-    λ i. record { re = ring-newer nan n re at (x .re) v h zero k i; im = ring-newer nan n im at (x .im) w h zero k i }
-sample-newer n re im at x v w h (suc d) k =
-    λ i. record { re = ring-newer nan n re at (x .re) v h (suc d) k i; im = ring-newer nan n im at (x .im) w h (suc d) k i }
+sample-later n re im at x v w h zero k =
+    λ i. record { re = ring-later nan n re at (x .re) v h zero k i; im = ring-later nan n im at (x .im) w h zero k i }
+sample-later n re im at x v w h (suc d) k =
+    λ i. record { re = ring-later nan n re at (x .re) v h (suc d) k i; im = ring-later nan n im at (x .im) w h (suc d) k i }
 
 -- rings of zeros
 pub ring-zeros : (n : ℕ) → 0 < n → (d : ℕ) → ringAt nan n (replicate n zeroF) 0 d ≡ zeroF
@@ -119,10 +119,10 @@ take-newest zero f = refl
 take-newest (suc n) f = ap (λ l. f zero ∷ l) (take-newest n (λ d. f (suc d)))
 
 -- what a store does, as an equation: newest n (after) ≡ take n (x ∷ newest n (before))
-pub newest-newer : {A : Type 0} (n : ℕ) (x : A) {f g : ℕ → A} → Agree n g (newer x f) → newest n g ≡ take n (x ∷ newest n f)
+pub newest-later : {A : Type 0} (n : ℕ) (x : A) {f g : ℕ → A} → Agree n g (oneLater x f) → newest n g ≡ take n (x ∷ newest n f)
 unfolding newest
-newest-newer zero x a = refl
-newest-newer (suc n) x {f} {g} a = newest-cong (suc n) a ∙ ap (λ l. x ∷ l) (sym (take-newest n f))
+newest-later zero x a = refl
+newest-later (suc n) x {f} {g} a = newest-cong (suc n) a ∙ ap (λ l. x ∷ l) (sym (take-newest n f))
 
 -- a record of one element is a list of it
 pub newest-same : {A : Type 0} (n : ℕ) (z : A) {f : ℕ → A} → Agree n f (λ j. z) → newest n f ≡ replicate n z

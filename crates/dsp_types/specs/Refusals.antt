@@ -45,8 +45,8 @@ abbrev pub pastCounter : ℕ
 pastCounter = 10
 
 -- no slot waits to be taken
-abbrev pub noSlot : ℕ
-noSlot = 11
+abbrev pub noSlotWaits : ℕ
+noSlotWaits = 11
 
 -- the sender needs the next slot
 abbrev pub needMoreData : ℕ

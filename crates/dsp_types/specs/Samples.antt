@@ -21,6 +21,6 @@ abbrev pub ago : {A : Type 0} → A → List A → ℕ → A
 ago z xs j = getD xs j z
 
 -- the record f, one call later: x is the newest now
-abbrev pub newer : {A : Type 0} → A → (ℕ → A) → ℕ → A
-newer x f zero = x
-newer x f (suc j) = f j
+abbrev pub oneLater : {A : Type 0} → A → (ℕ → A) → ℕ → A
+oneLater x f zero = x
+oneLater x f (suc j) = f j

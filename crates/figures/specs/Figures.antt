@@ -7,21 +7,21 @@ use lib.Seq.{slice}
 use lib.Ieee.{Float, binary32, ofBits, ofInt}
 use Rattle.magnitude.specs.Magnitude.{magnitudeOf}
 use Rattle.timing.specs.Turns.{quarterTurns}
-use Rattle.slotter.specs.Bursts.{Told, syncBurst, normalBurst}
+use Rattle.slotter.specs.Bursts.{BuilderReply, syncBurst, normalBurst}
 
 -- the bursts with zero blocks
-pub data Kind : Type 0 where
-  sync : Kind
-  normal1 : Kind
-  normal2 : Kind
+pub data ZeroBurst : Type 0 where
+  sync : ZeroBurst
+  normal1 : ZeroBurst
+  normal2 : ZeroBurst
 
-pub data Window : Type 0 where
-  first : Window
-  last : Window
+pub data BurstWindow : Type 0 where
+  first : BurstWindow
+  last : BurstWindow
 
 -- a row: what is computed, and then what 01 states of it
 pub data Figure : Type 0 where
-  window : Kind → Window → ℤ → List ℕ → Figure
+  window : ZeroBurst → BurstWindow → ℤ → List ℕ → Figure
   -- the magnitude of (re, im), and the quarter turns of (i, q)
   magnitude : Float → Float → Float → Figure
   timing : Float → Float → Float → Figure
@@ -39,7 +39,7 @@ abbrev pub half : Float
 half = ofBits binary32 0x3f00_0000
 
 -- what the builders' definitions give for zero blocks
-unfoldable pub burst : Kind → Told
+unfoldable pub burst : ZeroBurst → BuilderReply
 burst sync = syncBurst (replicate 120 0) (replicate 30 0) (replicate 216 0)
 burst normal1 = normalBurst 1 (replicate 216 0) (replicate 30 0) (replicate 216 0)
 burst normal2 = normalBurst 2 (replicate 216 0) (replicate 30 0) (replicate 216 0)

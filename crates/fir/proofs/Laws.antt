@@ -9,7 +9,7 @@ use lib.Ieee.{Float, nan}
 use Rattle.dsp_types.specs.declared.ComplexSample.{ComplexSample}
 use Rattle.dsp_types.specs.Samples.{silence, ago}
 use Rattle.dsp_types.specs.Ring.{Agree, newest}
-use Rattle.dsp_types.proofs.RingLaws.{newest-newer, newer-ago, newest-same, newest-at}
+use Rattle.dsp_types.proofs.RingLaws.{newest-later, later-ago, newest-same, newest-at}
 use Rattle.fir.specs.Fir.{termOf, laneUpTo, laneOf, firOf, filterOf, filteredOf, LineOf, lineAfter, outsOf, samplesOf, blockOf, startWith, reOf, imOf}
 
 -- ---- the filter reads the newest 32 and no other
@@ -48,7 +48,7 @@ line-new = record { held = sym (newest-same 32 silence (λ d k. refl)) }
 
 module _ {line xs : List ComplexSample} (x : ComplexSample) (h : LineOf line xs) where
   pub line-sample : LineOf (take 32 (x ∷ line)) (x ∷ xs)
-  line-sample = record { held = rw (h .held) (sym (newest-newer 32 x (λ d k. sym (newer-ago x silence xs d)))) }
+  line-sample = record { held = rw (h .held) (sym (newest-later 32 x (λ d k. sym (later-ago x silence xs d)))) }
 
   pub line-out : filterOf (ago silence (x ∷ line)) ≡ filterOf (ago silence (x ∷ xs))
   line-out = filter-cong each

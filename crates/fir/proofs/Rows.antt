@@ -9,9 +9,9 @@ use lib.ListN.{getD, length, set, take, drop, replicate, getD-replicate, length-
 use lib.Seq.{drop-cons, drop-drop, take-all, getD-at, getD-drop, getD-set-same, getD-set-other, set-at, append-snoc}
 use lib.Ieee.{Float, binary32, add, mul, nan}
 use Rattle.dsp_types.specs.declared.ComplexSample.{ComplexSample}
-use Rattle.dsp_types.specs.Samples.{zeroF, silence, ago, newer}
+use Rattle.dsp_types.specs.Samples.{zeroF, silence, ago, oneLater}
 use Rattle.dsp_types.specs.Ring.{Agree, newest}
-use Rattle.dsp_types.proofs.RingLaws.{le-or-lt, newest-newer, newest-at}
+use Rattle.dsp_types.proofs.RingLaws.{le-or-lt, newest-later, newest-at}
 use Rattle.fir.specs.Fir.{taps, termOf, laneUpTo, laneOf, firOf, filterOf, inRow, rowOuts}
 use Rattle.fir.proofs.Laws.{filter-cong}
 
@@ -101,10 +101,10 @@ block-step row out n x h e =
 -- ---- a sample
 
 -- a row of 32 without its oldest element and with x behind it
-pub row-newer : (row : List Float) (x : Float) → length row ≡ 32 → Agree 32 (inRow (drop 1 row ++ (x ∷ []))) (newer x (inRow row))
+pub row-later : (row : List Float) (x : Float) → length row ≡ 32 → Agree 32 (inRow (drop 1 row ++ (x ∷ []))) (oneLater x (inRow row))
 unfolding inRow
-row-newer row x h zero k = getD-at (drop 1 row) x [] nan 31 (length-drop 1 row ∙ omega arith)
-row-newer row x h (suc d) k =
+row-later row x h zero k = getD-at (drop 1 row) x [] nan 31 (length-drop 1 row ∙ omega arith)
+row-later row x h (suc d) k =
     let e : 1 + (31 - suc d) ≡ 31 - d = omega arith in
     List·getD-append (drop 1 row) (x ∷ []) nan (31 - suc d) (rw (length-drop 1 row) (omega arith)) ∙ getD-drop 1 row (31 - suc d) nan ∙ rw e
 
@@ -120,18 +120,18 @@ abbrev pub inRows : List Float → List Float → ℕ → ComplexSample
 inRows re im j = record { re = inRow re j; im = inRow im j }
 
 module _ (re im : List Float) (x : ComplexSample) (v : length re ≡ 32) (w : length im ≡ 32) where
-  pub rows-newer : Agree 32 (inRows (drop 1 re ++ (x .re ∷ [])) (drop 1 im ++ (x .im ∷ []))) (newer x (inRows re im))
-  rows-newer zero k = λ i. record { re = row-newer re (x .re) v zero k i; im = row-newer im (x .im) w zero k i }
-  rows-newer (suc j) k = λ i. record { re = row-newer re (x .re) v (suc j) k i; im = row-newer im (x .im) w (suc j) k i }
+  pub rows-later : Agree 32 (inRows (drop 1 re ++ (x .re ∷ [])) (drop 1 im ++ (x .im ∷ []))) (oneLater x (inRows re im))
+  rows-later zero k = λ i. record { re = row-later re (x .re) v zero k i; im = row-later im (x .im) w zero k i }
+  rows-later (suc j) k = λ i. record { re = row-later re (x .re) v (suc j) k i; im = row-later im (x .im) w (suc j) k i }
 
   -- the line so kept, as a list
   pub rows-line : newest 32 (inRows (drop 1 re ++ (x .re ∷ [])) (drop 1 im ++ (x .im ∷ []))) ≡ take 32 (x ∷ newest 32 (inRows re im))
-  rows-line = newest-newer 32 x rows-newer
+  rows-line = newest-later 32 x rows-later
 
   -- the filter over it is the filter over the list
   pub rows-out : filterOf (inRows (drop 1 re ++ (x .re ∷ [])) (drop 1 im ++ (x .im ∷ []))) ≡ filterOf (ago silence (x ∷ newest 32 (inRows re im)))
-  rows-out = filter-cong (λ d k. rows-newer d k ∙ each d k)
+  rows-out = filter-cong (λ d k. rows-later d k ∙ each d k)
     where
-      each : (d : ℕ) → d < 32 → newer x (inRows re im) d ≡ ago silence (x ∷ newest 32 (inRows re im)) d
+      each : (d : ℕ) → d < 32 → oneLater x (inRows re im) d ≡ ago silence (x ∷ newest 32 (inRows re im)) d
       each zero k = refl
       each (suc d) k = sym (newest-at 32 (inRows re im) silence d (omega arith))

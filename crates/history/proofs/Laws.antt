@@ -13,7 +13,7 @@ use lib.Ieee.{Float, nan}
 use Rattle.dsp_types.specs.declared.ComplexSample.{ComplexSample}
 use Rattle.dsp_types.specs.Samples.{zeroF, silence, ago}
 use Rattle.dsp_types.specs.Ring.{placeOf, ringAt, ringSample, next, newest}
-use Rattle.dsp_types.proofs.RingLaws.{newest-newer, newer-ago, ring-newer, sample-newer, newest-same, newest-at}
+use Rattle.dsp_types.proofs.RingLaws.{newest-later, later-ago, ring-later, sample-later, newest-same, newest-at}
 use Rattle.history.specs.History.{heldIn, samplesIn, heldAfter, PastOf, AbsOf}
 
 -- ---- rings of any length, with an index that counts modulo it
@@ -22,14 +22,14 @@ ring-write : (n : ℕ) (ring : List Float) (at : ℕ) (x : Float) → length rin
     → newest n (ringAt nan n (set ring ((at % n + 1) % n) x) (((at % n + 1) % n) % n)) ≡ take n (x ∷ newest n (ringAt nan n ring (at % n)))
 unfolding next
 ring-write n ring at x w h =
-    rw (mod-eq-of-lt (mod-lt (at % n + 1) h)) (newest-newer n x (ring-newer nan n ring (at % n) x w (mod-lt at h)))
+    rw (mod-eq-of-lt (mod-lt (at % n + 1) h)) (newest-later n x (ring-later nan n ring (at % n) x w (mod-lt at h)))
 
 sample-write : (n : ℕ) (re im : List Float) (at : ℕ) (x : ComplexSample) → length re ≡ n → length im ≡ n → 0 < n
     → newest n (ringSample n (set re ((at % n + 1) % n) (x .re)) (set im ((at % n + 1) % n) (x .im)) (((at % n + 1) % n) % n))
     ≡ take n (x ∷ newest n (ringSample n re im (at % n)))
 unfolding next
 sample-write n re im at x v w h =
-    rw (mod-eq-of-lt (mod-lt (at % n + 1) h)) (newest-newer n x (sample-newer n re im (at % n) x v w (mod-lt at h)))
+    rw (mod-eq-of-lt (mod-lt (at % n + 1) h)) (newest-later n x (sample-later n re im (at % n) x v w (mod-lt at h)))
 
 -- ---- what a store at the next place does
 
@@ -147,7 +147,7 @@ past-new = record { held = sym (newest-same 2048 silence (λ d k. refl)) }
 
 module _ {past ys : List ComplexSample} (h : PastOf past ys) where
   pub past-write : (y : ComplexSample) → PastOf (take 2048 (y ∷ past)) (y ∷ ys)
-  past-write y = record { held = rw (h .held) (sym (newest-newer 2048 y (λ d k. sym (newer-ago y silence ys d)))) }
+  past-write y = record { held = rw (h .held) (sym (newest-later 2048 y (λ d k. sym (later-ago y silence ys d)))) }
 
   pub past-delayed : (d : ℕ) → d < 2048 → ago silence past d ≡ ago silence ys d
   past-delayed d k = rw (h .held) (newest-at 2048 (ago silence ys) silence d k)

@@ -13,10 +13,10 @@ use Rattle.dsp_types.specs.Refusals.{wrongLength}
 use Rattle.slotter.specs.Bursts.{refusal}
 use Rattle.text.specs.Text.{trimmed}
 use Rattle.text.proofs.Trimming.{trimmed-append, trimmed-length}
-use Rattle.block_text.specs.BlockText.{typeOf, wanted, notCharacter, notCharacters, wrongCount, refusalOf, answerOf}
+use Rattle.block_text.specs.BlockText.{letterType, wanted, notCharacter, notCharacters, wrongCount, refusalOf, answerOf}
 use Rattle.block_text.proofs.Characters.{or-assoc}
 use Rattle.block_text.proofs.Blocks.{wanted-most}
-use Rattle.lister.specs.Listing.{printed, listed, listing}
+use Rattle.lister.specs.Listing.{listedAnswer, listed, listing}
 
 -- room for one more
 pub one-more : (B : List ℕ) (n b : ℕ) → n < length B → (t : List ℕ) → listing (take (n + 1) (set B n b) ++ t) ≡ listing (take n B ++ (b ∷ t))
@@ -35,10 +35,10 @@ long-answer k cs h =
     go true false e f w = rw (e, f)
     go false b e f w = rw (w, e)
 
-judged : (l : ℕ) (xs : List ℕ) → 464 ≤ length xs → listing (l ∷ xs) ≡ printed (typeOf l) (refusal (cond (eqb (typeOf l) 0) (cond (notCharacters (trimmed 10 xs)) 4 5) 3))
+judged : (l : ℕ) (xs : List ℕ) → 464 ≤ length xs → listing (l ∷ xs) ≡ listedAnswer (letterType l) (refusal (cond (eqb (letterType l) 0) (cond (notCharacters (trimmed 10 xs)) 4 5) 3))
 unfolding listing listed trimmed
 judged l [] h = absurd (omega arith)
-judged l (x ∷ xs) h = ap (printed (typeOf l)) (long-answer (typeOf l) (trimmed 10 (x ∷ xs)) (omega (arith, trimmed-length 10 (x ∷ xs))))
+judged l (x ∷ xs) h = ap (listedAnswer (letterType l)) (long-answer (letterType l) (trimmed 10 (x ∷ xs)) (omega (arith, trimmed-length 10 (x ∷ xs))))
 
 same : (l : ℕ) (xs ys : List ℕ) → 464 ≤ length xs → 464 ≤ length ys → notCharacters (trimmed 10 xs) ≡ notCharacters (trimmed 10 ys) → listing (l ∷ xs) ≡ listing (l ∷ ys)
 same l xs ys h k e = judged l xs h ∙ rw e (sym (judged l ys k))

@@ -7,16 +7,16 @@ use lib.IntN.{ℤ, pos, negsuc}
 use lib.ListN.{length, take, drop, length-append, length-map, length-drop, length-take, getD}
 use lib.Seq.{slice, take-add, drop-at, length-take-le}
 use Rattle.io.specs.Counts.{Counts}
-use Rattle.slotter.specs.Bursts.{Told}
+use Rattle.slotter.specs.Bursts.{BuilderReply}
 use Rattle.text.specs.declared.Text.{Text}
 use Rattle.text.specs.Text.{textOf, ascii, characterOf, trimmed}
 use Rattle.text.proofs.Decimal.{length-decimal}
 use Rattle.text.proofs.Names.{length-name}
-use Rattle.block_text.specs.BlockText.{typeOf, answerOf}
-use Rattle.lister.specs.Listing.{signed, refusalLine, burstLines, printed, listed, listing}
+use Rattle.block_text.specs.BlockText.{letterType, answerOf}
+use Rattle.lister.specs.Listing.{signedDecimal, refusalLine, burstLines, listedAnswer, listed, listing}
 
-length-signed : (z : ℤ) → length (signed z) ≤ 21
-unfolding signed ascii
+length-signed : (z : ℤ) → length (signedDecimal z) ≤ 21
+unfolding signedDecimal ascii
 length-signed (pos n) = omega (arith, length-decimal 20 n)
 length-signed (negsuc n) = omega (arith, length-decimal 20 (suc n))
 
@@ -33,11 +33,11 @@ length-burst type first last bits =
     simp length-append
     (omega (arith, length-name type, length-signed first, length-two 12 bits, length-signed last, length-two 498 bits))
 
-length-printed : (type : ℕ) (told : Told) → length (printed type told) ≤ 1024
-unfolding printed
-length-printed type told = go (told .number) (told .sums) (told .bits)
+length-answer : (type : ℕ) (told : BuilderReply) → length (listedAnswer type told) ≤ 1024
+unfolding listedAnswer
+length-answer type told = go (told .number) (told .sums) (told .bits)
   where
-    go : (n : ℕ) (sums : List ℤ) (bits : List ℕ) → length (printed type (record { number = n; sums = sums; bits = bits })) ≤ 1024
+    go : (n : ℕ) (sums : List ℤ) (bits : List ℕ) → length (listedAnswer type (record { number = n; sums = sums; bits = bits })) ≤ 1024
     go n [] bits = length-refusal n
     go n (first ∷ rest) bits = length-burst type first (getD rest 0 (pos 0)) bits
 
@@ -47,7 +47,7 @@ length-listing input = go (trimmed 10 input)
   where
     go : (l : List ℕ) → length (listed l) ≤ 1024
     go [] = length-refusal 3
-    go (letter ∷ characters) = length-printed (typeOf letter) (answerOf (typeOf letter) characters)
+    go (letter ∷ characters) = length-answer (letterType letter) (answerOf (letterType letter) characters)
 
 -- what `Text::append` says of its length, as a count
 pub counts : (t : Text) → t .len ≡ length (textOf t) → Counts (t .len) (t .bytes)

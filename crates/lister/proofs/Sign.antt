@@ -9,7 +9,7 @@ use lib.IntN.{ℤ, pos, negsuc, natAbs, _-ℤ_}
 use lib.Signed.{mag, ltZ}
 use borrow.Author.Tests.{le-ltb, ltb-true}
 use Rattle.text.specs.Text.{ascii, decimal}
-use Rattle.lister.specs.Listing.{signed}
+use Rattle.lister.specs.Listing.{signedDecimal}
 
 true-ne : true ≡ false → ⊥
 true-ne e = let z : _≡_ {A = ℕ} 0 1 = cc in omega arith
@@ -23,12 +23,12 @@ above (pos n) e = refl
 above (negsuc n) e = absurd (true-ne e)
 
 -- what is written of it
-pub below-signed : (t : List ℕ) (z : ℤ) → ltZ z (pos 0) ≡ true → t ++ ascii "-" ++ decimal 20 (mag z + 1) ≡ t ++ signed z
-unfolding signed
+pub below-signed : (t : List ℕ) (z : ℤ) → ltZ z (pos 0) ≡ true → t ++ ascii "-" ++ decimal 20 (mag z + 1) ≡ t ++ signedDecimal z
+unfolding signedDecimal
 below-signed t (pos n) e = absurd (omega (arith, ltb-true n 0 e))
 below-signed t (negsuc n) e = rw (add-one n) (append-assoc t (ascii "-") (decimal 20 (suc n)))
 
-pub above-signed : (z : ℤ) → ltZ z (pos 0) ≡ false → decimal 20 (natAbs z) ≡ signed z
-unfolding signed
+pub above-signed : (z : ℤ) → ltZ z (pos 0) ≡ false → decimal 20 (natAbs z) ≡ signedDecimal z
+unfolding signedDecimal
 above-signed (pos n) e = refl
 above-signed (negsuc n) e = absurd (true-ne e)

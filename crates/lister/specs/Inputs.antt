@@ -5,5 +5,5 @@ use lib.ListN.{take}
 use Rattle.lister.specs.declared.Input.{Input}
 
 -- its bytes
-unfoldable pub inputOf : Input → List ℕ
-inputOf i = take (i .len) (i .bytes)
+unfoldable pub inputBytes : Input → List ℕ
+inputBytes i = take (i .len) (i .bytes)

@@ -6,13 +6,13 @@ use lib.ListN.{getD}
 use lib.Seq.{slice}
 use Rattle.dsp_types.specs.Refusals.{badLength}
 use Rattle.text.specs.Text.{ascii, decimal, characterOf, typeName, trimmed}
-use Rattle.slotter.specs.Bursts.{Told}
-use Rattle.block_text.specs.BlockText.{typeOf, answerOf}
+use Rattle.slotter.specs.Bursts.{BuilderReply}
+use Rattle.block_text.specs.BlockText.{letterType, answerOf}
 
 -- a whole number in decimal
-unfoldable pub signed : ℤ → List ℕ
-signed (pos n) = decimal 20 n
-signed (negsuc n) = ascii "-" ++ decimal 20 (suc n)
+unfoldable pub signedDecimal : ℤ → List ℕ
+signedDecimal (pos n) = decimal 20 n
+signedDecimal (negsuc n) = ascii "-" ++ decimal 20 (suc n)
 
 -- what is printed of a refusal
 unfoldable pub refusalLine : ℕ → List ℕ
@@ -22,15 +22,15 @@ refusalLine n = ascii "refused=" ++ decimal 20 n ++ ascii "\n"
 unfoldable pub burstLines : ℕ → ℤ → ℤ → List ℕ → List ℕ
 burstLines type first last bits =
     ascii "kind=" ++ typeName type
-    ++ ascii "\nsum_first=" ++ signed first
+    ++ ascii "\nsum_first=" ++ signedDecimal first
     ++ ascii "\nadj_first=" ++ map characterOf (slice 12 14 bits)
-    ++ ascii "\nsum_last=" ++ signed last
+    ++ ascii "\nsum_last=" ++ signedDecimal last
     ++ ascii "\nadj_last=" ++ map characterOf (slice 498 500 bits)
     ++ ascii "\n"
 
 -- what is printed of an answer: a refusal has no sums
-unfoldable pub printed : ℕ → Told → List ℕ
-printed type told = go (told .number) (told .sums) (told .bits)
+unfoldable pub listedAnswer : ℕ → BuilderReply → List ℕ
+listedAnswer type told = go (told .number) (told .sums) (told .bits)
   where
     go : ℕ → List ℤ → List ℕ → List ℕ
     go n [] bits = refusalLine n
@@ -39,7 +39,7 @@ printed type told = go (told .number) (told .sums) (told .bits)
 -- the listing of an input without its closing newline
 unfoldable pub listed : List ℕ → List ℕ
 listed [] = refusalLine badLength
-listed (letter ∷ characters) = printed (typeOf letter) (answerOf (typeOf letter) characters)
+listed (letter ∷ characters) = listedAnswer (letterType letter) (answerOf (letterType letter) characters)
 
 -- the listing of an input, of which one closing newline is dropped
 unfoldable pub listing : List ℕ → List ℕ

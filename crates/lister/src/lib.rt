@@ -11,13 +11,13 @@ ghost use Prim.Native.Nat.{ℕ};
 ghost use mathlib.Core.List.{List, [], _∷_, _++_};
 ghost use Rattle.io.specs.Counts.{Counts};
 ghost use Rattle.text.specs.Text.{textOf, cut};
-ghost use Rattle.slotter.specs.Bursts.{told};
-ghost use Rattle.lister.specs.Listing.{signed, refusalLine, burstLines, printed, listing};
-ghost use Rattle.lister.specs.Inputs.{inputOf};
+ghost use Rattle.slotter.specs.Bursts.{builderReply};
+ghost use Rattle.lister.specs.Listing.{signedDecimal, refusalLine, burstLines, listedAnswer, listing};
+ghost use Rattle.lister.specs.Inputs.{inputBytes};
 
 // The text with a whole number in decimal behind it.
 fn with_signed(text: Text, n: i32) -> Text
-    ensures { λ r. ⌜ textOf r ≡ cut (textOf text ++ signed n) ⌝ }
+    ensures { λ r. ⌜ textOf r ≡ cut (textOf text ++ signedDecimal n) ⌝ }
 {
     if n < 0 {
         text.append(b"-").decimal((-1 - n) as u64 + 1)
@@ -55,7 +55,7 @@ fn built(kind: u32, first: i32, last: i32, burst: [u8; 510]) -> Text
 
 // What is printed of an answer to a letter of that type.
 fn print(kind: u32, burst: Burst) -> Text
-    ensures { λ r. ⌜ Counts (r .len) (r .bytes) × (textOf r ≡ cut (printed kind (told burst))) ⌝ }
+    ensures { λ r. ⌜ Counts (r .len) (r .bytes) × (textOf r ≡ cut (listedAnswer kind (builderReply burst))) ⌝ }
 {
     let answer = burst.answer;
     let bits = burst.bits;
@@ -85,7 +85,7 @@ pub struct Input {
 
 impl Input {
     pub fn new() -> Input
-        ensures { λ r. ⌜ inputOf r ≡ [] ⌝ }
+        ensures { λ r. ⌜ inputBytes r ≡ [] ⌝ }
     {
         Input {
             bytes: [0; 465],
@@ -96,7 +96,7 @@ impl Input {
     // One byte more. 465 bytes are too many for each of the three letters. Behind another letter what counts is the
     // last byte and whether one before it was other than 0 and 1.
     fn push(self, b: u8) -> Input
-        ensures { λ r. ⌜ ((t : List ℕ) → listing (inputOf r ++ t) ≡ listing (inputOf self ++ (b ∷ t))) ⌝ }
+        ensures { λ r. ⌜ ((t : List ℕ) → listing (inputBytes r ++ t) ≡ listing (inputBytes self ++ (b ∷ t))) ⌝ }
     {
         let mut bytes = self.bytes;
         let len = self.len;
@@ -117,7 +117,7 @@ impl Input {
 
     // A piece more.
     pub fn feed(self, piece: &[u8]) -> Input
-        ensures { λ r. ⌜ ((t : List ℕ) → listing (inputOf r ++ t) ≡ listing (inputOf self ++ (now (piece .entry) ++ t))) ⌝ }
+        ensures { λ r. ⌜ ((t : List ℕ) → listing (inputBytes r ++ t) ≡ listing (inputBytes self ++ (now (piece .entry) ++ t))) ⌝ }
     {
         let mut input = self;
         for i in 0..piece.len() {
@@ -128,7 +128,7 @@ impl Input {
 
     // The listing of all the pieces.
     pub fn listed(self) -> Text
-        ensures { λ r. ⌜ Counts (r .len) (r .bytes) × (textOf r ≡ listing (inputOf self)) ⌝ }
+        ensures { λ r. ⌜ Counts (r .len) (r .bytes) × (textOf r ≡ listing (inputBytes self)) ⌝ }
     {
         let bytes = self.bytes;
         listing(text::front(&bytes, self.len))

@@ -14,31 +14,31 @@ use Rattle.burst_finder.specs.declared.SlotType.{SlotType}
 use Rattle.burst_finder.specs.declared.SlotType.the-variants.{Dl, UlFull, UlSub}
 use Rattle.burst_finder.specs.Slots.{typeNumber, checkSlot}
 use Rattle.burst_finder.proofs.Findings.{slot-judged, slot-errors}
-use Rattle.logger.specs.Judge.{kindOf, windowBits, wrongWindow, judgeRefusal, answerOf, judgeAnswer}
+use Rattle.logger.specs.Judge.{slotTypeOf, windowLength, wrongWindow, judgeRefusal, findingBytes, judgeAnswer}
 
 -- ---- the kind
-pub is-dl : (kind : ℕ) → kind ≡ 0 → Dl ≡ kindOf kind
-unfolding kindOf
+pub is-dl : (kind : ℕ) → kind ≡ 0 → Dl ≡ slotTypeOf kind
+unfolding slotTypeOf
 is-dl kind e = rw e
 
-pub is-full : (kind : ℕ) → kind ≡ 1 → UlFull ≡ kindOf kind
-unfolding kindOf
+pub is-full : (kind : ℕ) → kind ≡ 1 → UlFull ≡ slotTypeOf kind
+unfolding slotTypeOf
 is-full kind e = rw e
 
-pub is-sub : (kind : ℕ) → (kind ≡ 0 → ⊥) → (kind ≡ 1 → ⊥) → UlSub ≡ kindOf kind
-unfolding kindOf
+pub is-sub : (kind : ℕ) → (kind ≡ 0 → ⊥) → (kind ≡ 1 → ⊥) → UlSub ≡ slotTypeOf kind
+unfolding slotTypeOf
 is-sub zero n m = absurd (n refl)
 is-sub (suc zero) n m = absurd (m refl)
 is-sub (suc (suc k)) n m = refl
 
-full-bits : (kind : ℕ) → kind < 2 → windowBits (kindOf kind) ≡ 510
-unfolding kindOf windowBits
+full-bits : (kind : ℕ) → kind < 2 → windowLength (slotTypeOf kind) ≡ 510
+unfolding slotTypeOf windowLength
 full-bits zero h = refl
 full-bits (suc zero) h = refl
 full-bits (suc (suc k)) h = absurd (omega arith)
 
-sub-bits : (kind : ℕ) → 2 ≤ kind → windowBits (kindOf kind) ≡ 254
-unfolding kindOf windowBits
+sub-bits : (kind : ℕ) → 2 ≤ kind → windowLength (slotTypeOf kind) ≡ 254
+unfolding slotTypeOf windowLength
 sub-bits zero h = absurd (omega arith)
 sub-bits (suc zero) h = absurd (omega arith)
 sub-bits (suc (suc k)) h = refl
@@ -90,8 +90,8 @@ no-test false false true k e = absurd (omega (arith, e))
 no-test false false false true e = absurd (omega (arith, e))
 no-test false false false false e = (refl, refl, refl)
 
-window-most : (k : SlotType) → windowBits k ≤ 510
-unfolding windowBits
+window-most : (k : SlotType) → windowLength k ≤ 510
+unfolding windowLength
 window-most Dl = omega arith
 window-most UlFull = omega arith
 window-most UlSub = omega arith
@@ -107,14 +107,14 @@ module _ (kind : ℕ) (bits answer : List ℕ) (ok : judgeRefusal kind bits answ
   bits-most : length bits ≤ 510
   unfolding wrongWindow
   bits-most =
-      let w : wrongLength (windowBits (kindOf kind)) bits ≡ false = rw (tests .2) at (tests .1) in
-      omega (arith, right-length (windowBits (kindOf kind)) bits w, window-most (kindOf kind))
+      let w : wrongLength (windowLength (slotTypeOf kind)) bits ≡ false = rw (tests .2) at (tests .1) in
+      omega (arith, right-length (windowLength (slotTypeOf kind)) bits w, window-most (slotTypeOf kind))
 
   module _ (k : SlotType) (r : Finding) (e : r ≡ checkSlot k bits) where
     pub room : (r .«train_errs» < 256) × (r .«burst_pos» < 65536) × (r .«burst_len» < 65536)
     room = rw e (omega (arith, slot-errors k bits), omega (arith, (slot-judged k bits) .fits, bits-most), omega (arith, (slot-judged k bits) .fits, bits-most))
 
-    pub written : (last : List ℕ) → last ≡ answerOf r → k ≡ kindOf kind → last ≡ judgeAnswer kind bits answer
+    pub written : (last : List ℕ) → last ≡ findingBytes r → k ≡ slotTypeOf kind → last ≡ judgeAnswer kind bits answer
     unfolding judgeAnswer
     written last f g = f ∙ rw (eq-eqb (judgeRefusal kind bits answer) 0 ok, e, g)
 
@@ -134,7 +134,7 @@ six-stores (x ∷ x₁ ∷ x₂ ∷ x₃ ∷ x₄ ∷ x₅ ∷ []) a b c d e f h
 six-stores (x ∷ x₁ ∷ x₂ ∷ x₃ ∷ x₄ ∷ x₅ ∷ x₆ ∷ l) a b c d e f h = absurd (omega (arith, h))
 
 pub stored : (l : List ℕ) (type : ℕ) (r : Finding) → length l ≡ 6 → type ≡ typeNumber (r .«train_type»)
-    → set (set (set (set (set (set l 0 type) 1 (r .«train_errs»)) 2 (r .«burst_pos» % 256)) 3 (r .«burst_pos» / 256)) 4 (r .«burst_len» % 256)) 5 (r .«burst_len» / 256) ≡ answerOf r
-unfolding answerOf
+    → set (set (set (set (set (set l 0 type) 1 (r .«train_errs»)) 2 (r .«burst_pos» % 256)) 3 (r .«burst_pos» / 256)) 4 (r .«burst_len» % 256)) 5 (r .«burst_len» / 256) ≡ findingBytes r
+unfolding findingBytes
 stored l type r h e =
     six-stores l type (r .«train_errs») (r .«burst_pos» % 256) (r .«burst_pos» / 256) (r .«burst_len» % 256) (r .«burst_len» / 256) h ∙ rw e

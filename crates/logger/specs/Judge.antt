@@ -10,20 +10,20 @@ use Rattle.burst_finder.specs.declared.SlotType.the-variants.{Dl, UlFull, UlSub
 use Rattle.burst_finder.specs.Slots.{typeNumber, checkSlot}
 
 -- 01: a kind is 0 downlink, 1 uplink full, 2 uplink half; a number above 2 is refused
-unfoldable pub kindOf : ℕ → SlotType
-kindOf zero = Dl
-kindOf (suc zero) = UlFull
-kindOf (suc (suc n)) = UlSub
+unfoldable pub slotTypeOf : ℕ → SlotType
+slotTypeOf zero = Dl
+slotTypeOf (suc zero) = UlFull
+slotTypeOf (suc (suc n)) = UlSub
 
 -- 01: 510 bytes for kinds 0 and 1, 254 for 2
-unfoldable pub windowBits : SlotType → ℕ
-windowBits Dl = 510
-windowBits UlFull = 510
-windowBits UlSub = 254
+unfoldable pub windowLength : SlotType → ℕ
+windowLength Dl = 510
+windowLength UlFull = 510
+windowLength UlSub = 254
 
 -- 01: the bits are no window of their kind; for a kind above 2 only the answer's length counts
 unfoldable pub wrongWindow : ℕ → List ℕ → Bool
-wrongWindow kind bits = cond (ltb 2 kind) false (wrongLength (windowBits (kindOf kind)) bits)
+wrongWindow kind bits = cond (ltb 2 kind) false (wrongLength (windowLength (slotTypeOf kind)) bits)
 
 -- 01, "Refusals": the smallest number that holds, or 0
 unfoldable pub judgeRefusal : ℕ → List ℕ → List ℕ → ℕ
@@ -31,10 +31,10 @@ judgeRefusal kind bits answer =
     cond (wrongLength 6 answer || wrongWindow kind bits) badLength (cond (notBits bits) badBit (cond (ltb 2 kind) badKind accepted))
 
 -- 01: type, errors, then place and length of the view, two bytes each, low byte first
-unfoldable pub answerOf : Finding → List ℕ
-answerOf f =
+unfoldable pub findingBytes : Finding → List ℕ
+findingBytes f =
     typeNumber (f .«train_type») ∷ f .«train_errs» ∷ f .«burst_pos» % 256 ∷ f .«burst_pos» / 256 ∷ f .«burst_len» % 256 ∷ f .«burst_len» / 256 ∷ []
 
 -- 01: what the answer bytes hold after a call; a refused one changes nothing
 unfoldable pub judgeAnswer : ℕ → List ℕ → List ℕ → List ℕ
-judgeAnswer kind bits answer = cond (eqb (judgeRefusal kind bits answer) accepted) (answerOf (checkSlot (kindOf kind) bits)) answer
+judgeAnswer kind bits answer = cond (eqb (judgeRefusal kind bits answer) accepted) (findingBytes (checkSlot (slotTypeOf kind) bits)) answer

@@ -8,11 +8,11 @@ use dsp_types::BAD_LENGTH;
 ghost use mathlib.Core.Path.{_≡_};
 ghost use Prim.Native.Nat.{_<_};
 ghost use lib.ListN.{length};
-ghost use Rattle.logger.specs.Judge.{kindOf, wrongWindow, judgeRefusal, answerOf, judgeAnswer};
+ghost use Rattle.logger.specs.Judge.{slotTypeOf, wrongWindow, judgeRefusal, findingBytes, judgeAnswer};
 
 // The slot kind of a number that is not refused.
 fn slot_type(kind: u32) -> SlotType
-    ensures { λ r. ⌜ r ≡ kindOf kind ⌝ }
+    ensures { λ r. ⌜ r ≡ slotTypeOf kind ⌝ }
 {
     match kind {
         0 => SlotType::Dl,
@@ -54,7 +54,7 @@ fn refusal(kind: u32, bits: &[u8], answer: &[u8]) -> u32
 // The six answer bytes of a finding.
 fn write_answer(f: Finding, answer: &mut [u8])
     requires { ⌜ (f .«train_errs» < 256) × (f .«burst_pos» < 65536) × (f .«burst_len» < 65536) × (length (now answer) ≡ 6) ⌝ }
-    ensures { λ _. ⌜ now (answer .exit) ≡ answerOf f ⌝ }
+    ensures { λ _. ⌜ now (answer .exit) ≡ findingBytes f ⌝ }
 {
     let train_type = f.train_type;
     answer[0] = train_type.number();

@@ -6,7 +6,7 @@ use native.Mathlib.Nat.{le-trans, le-of-eq, le-add-right, lt-of-lt-of-le, lt-of-
 use native.Mathlib.Omega.{arith}
 use lib.Pow.{pow-add, pow-pos}
 use Rattle.magnitude.specs.Magnitude.{square, largest}
-use Rattle.magnitude.specs.Pattern.{exponentOf, significandOf, sized, packedOf}
+use Rattle.magnitude.specs.Pattern.{exponentOf, significandOf, patternUnits, packedOf}
 use Rattle.magnitude.proofs.Numbers.{product-lt, root-lt, sum-lt-49}
 use Rattle.magnitude.proofs.Values.{Normal}
 use Rattle.magnitude.proofs.Largest.{largest-is, packed-top}
@@ -74,7 +74,7 @@ normal a s g lo hi =
     elim (eq-zero-or-pos (exponentOf a)) [ inl z ↦ inr z | inr p ↦ inl (omega arith) ]
 
 aligned : (a b g : ℕ) → b ≤ a → a < 0x7f80_0000 → (let s = square (significandOf a) + square (significandOf b) / gap (exponentOf a) (exponentOf b) in (square g ≤ s) × (s < square (g + 1)))
-    → packedOf (exponentOf a) g ≡ largest (square (sized a) + square (sized b))
+    → packedOf (exponentOf a) g ≡ largest (square (patternUnits a) + square (patternUnits b))
 aligned a b g h l r =
     let e = exponentOf a in
     let f = exponentOf b in
@@ -82,8 +82,8 @@ aligned a b g h l r =
     let n = significandOf b in
     let z = square n / gap e f in
     let F : f ≤ e = omega arith in
-    sym (largest-is (square (sized a) + square (sized b)) (packedOf e g)
-    (packed-top (square (sized a) + square (sized b)) e g (omega arith)
+    sym (largest-is (square (patternUnits a) + square (patternUnits b)) (packedOf e g)
+    (packed-top (square (patternUnits a) + square (patternUnits b)) e g (omega arith)
     (root-lt-25 (square m + z) g (sum-lt-49 m z (significand-lt a) (small-square-lt b (gap e f))) (r .0))
     (normal a (square m + z) g (le-add-right (square m) z) (r .1))
     (low e f F m n g (r .0))
@@ -91,7 +91,7 @@ aligned a b g h l r =
 
 -- the same, by what the calls on the way give
 pub aligned-at : (a b e m n f z g : ℕ) → b ≤ a → a < 0x7f80_0000 → e ≡ exponentOf a → m ≡ significandOf a → n ≡ significandOf b → f ≡ exponentOf b → z ≡ square n / gap e f
-    → (square g ≤ square m + z) × (square m + z < square (g + 1)) → packedOf e g ≡ largest (square (sized a) + square (sized b))
+    → (square g ≤ square m + z) × (square m + z < square (g + 1)) → packedOf e g ≡ largest (square (patternUnits a) + square (patternUnits b))
 aligned-at a b e m n f z g h l E M N F Z r =
     let q : square m + z ≡ square (significandOf a) + square (significandOf b) / gap (exponentOf a) (exponentOf b) = cc in
     rw E (aligned a b g h l (rw q at r))

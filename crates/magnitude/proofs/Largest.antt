@@ -11,9 +11,9 @@ use borrow.Author.Tests.{ltb-true, ltb-false, eqb-true, eqb-false}
 use lib.Ieee.{binary32, ofBits}
 use lib.Ieee.Fits.{and-i, and-l, and-r}
 use Rattle.magnitude.specs.Magnitude.{units, under, raised, largest, square}
-use Rattle.magnitude.specs.Pattern.{sized, packedOf}
+use Rattle.magnitude.specs.Pattern.{patternUnits, packedOf}
 use Rattle.magnitude.proofs.Numbers.{square-le}
-use Rattle.magnitude.proofs.Values.{unsigned-at, sized-units, sized-mono, Normal, sized-pack}
+use Rattle.magnitude.proofs.Values.{unsigned-at, sized-units, pattern-mono, Normal, pattern-pack}
 
 -- r passes the test, and nothing above it does
 abbrev pub Top : (ℕ → Bool) → ℕ → Type 0
@@ -38,16 +38,16 @@ module _ (test : ℕ → Bool) (down : (p q : ℕ) → p ≤ q → T (test q) �
       go false e ih = ih p here (λ q h t. subst T e (down (p + 2 ^ k) q h t))
 
 -- ---- the test on patterns, in units
-units-at : (p : ℕ) → p < 0x7f80_0000 → units (ofBits binary32 p) ≡ sized p
-units-at p h = sized-units (ofBits binary32 p) false (sized p) (unsigned-at p h)
+units-at : (p : ℕ) → p < 0x7f80_0000 → units (ofBits binary32 p) ≡ patternUnits p
+units-at p h = sized-units (ofBits binary32 p) false (patternUnits p) (unsigned-at p h)
 
-pub under-intro : (n p : ℕ) → p < 0x7f80_0000 → square (sized p) ≤ n → T (under n p)
+pub under-intro : (n p : ℕ) → p < 0x7f80_0000 → square (patternUnits p) ≤ n → T (under n p)
 unfolding under
 under-intro n p h k =
     and-i (ltb p 0x7f80_0000) (leb (square (units (ofBits binary32 p))) n) (lt→ltb p 0x7f80_0000 h)
     (le→leb (square (units (ofBits binary32 p))) n (rw (units-at p h) k))
 
-pub under-elim : (n p : ℕ) → T (under n p) → (p < 0x7f80_0000) × (square (sized p) ≤ n)
+pub under-elim : (n p : ℕ) → T (under n p) → (p < 0x7f80_0000) × (square (patternUnits p) ≤ n)
 unfolding under
 under-elim n p t =
     let h : p < 0x7f80_0000 = ltb→lt p 0x7f80_0000 (and-l (ltb p 0x7f80_0000) (leb (square (units (ofBits binary32 p))) n) t) in
@@ -56,7 +56,7 @@ under-elim n p t =
 under-down : (n p q : ℕ) → p ≤ q → T (under n q) → T (under n p)
 under-down n p q h t =
     let u = under-elim n q t in
-    under-intro n p (omega arith) (le-trans (square-le (sized-mono p q h)) (u .1))
+    under-intro n p (omega arith) (le-trans (square-le (pattern-mono p q h)) (u .1))
 
 pub largest-top : (n : ℕ) → Top (under n) (largest n)
 unfolding largest
@@ -78,10 +78,10 @@ grown e g (inr h) = inr h
 
 top-at : (n e g : ℕ) → e < 254 → g < 0x100_0000 → Normal e g → square (g * 2 ^ e) ≤ n → n < square ((g + 1) * 2 ^ e) → Top (under n) (e * 0x80_0000 + g)
 top-at n e g E G N lo hi = (
-  under-intro n (e * 0x80_0000 + g) (omega arith) (rw (sized-pack e g N (le-of-lt G)) lo),
+  under-intro n (e * 0x80_0000 + g) (omega arith) (rw (pattern-pack e g N (le-of-lt G)) lo),
   λ q h t.
       not-le-of-lt hi
-      (le-trans (square-le (rw (sized-pack e (g + 1) (grown e g N) (omega arith)) at (sized-mono (e * 0x80_0000 + (g + 1)) q (omega arith)))) (under-elim n q t .1)),
+      (le-trans (square-le (rw (pattern-pack e (g + 1) (grown e g N) (omega arith)) at (pattern-mono (e * 0x80_0000 + (g + 1)) q (omega arith)))) (under-elim n q t .1)),
 )
 
 -- the largest pattern of all

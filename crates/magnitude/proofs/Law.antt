@@ -13,9 +13,9 @@ use lib.Ieee.Bits.{ofBits-fits}
 use lib.Ieee.Order.{le-of-values}
 use lib.Ieee.Scale.{finite}
 use Rattle.magnitude.specs.Magnitude.{units, square, under, largest, magnitudeOf}
-use Rattle.magnitude.specs.Pattern.{sizeOf, sized}
+use Rattle.magnitude.specs.Pattern.{sizeOf, patternUnits}
 use Rattle.magnitude.specs.Document.{Number, LargestUnder, StandIn}
-use Rattle.magnitude.proofs.Values.{Sized, sized-finite, sized-units, unsigned-at, sized-mono}
+use Rattle.magnitude.proofs.Values.{Sized, sized-finite, sized-units, unsigned-at, pattern-mono}
 use Rattle.magnitude.proofs.Largest.{no-higher, largest-top, largest-lt, under-intro, under-elim}
 use Rattle.magnitude.proofs.Parts.{number, size-lt, units-size, zero-first, zero-second, two-numbers}
 
@@ -33,7 +33,7 @@ pattern-number : (p : ℕ) → p < 0x7f80_0000 → Number (ofBits binary32 p)
 pattern-number p h = record {
   held = ofBits-fits binary32 p;
   sign = false;
-  exact = rw (sized-units (ofBits binary32 p) false (sized p) (unsigned-at p h)) (unsigned-at p h);
+  exact = rw (sized-units (ofBits binary32 p) false (patternUnits p) (unsigned-at p h)) (unsigned-at p h);
 }
 
 -- ---- a negative value, or −0.0, is at most one that is not negative
@@ -58,23 +58,23 @@ negative-le (fin true m e) (fin false n f) a b p q = below-or-zero (m * up e * d
 
 -- ---- the law
 module _ (n : ℕ) where
-  largest-units : units (ofBits binary32 (largest n)) ≡ sized (largest n)
-  largest-units = sized-units (ofBits binary32 (largest n)) false (sized (largest n)) (unsigned-at (largest n) (largest-lt n))
+  largest-units : units (ofBits binary32 (largest n)) ≡ patternUnits (largest n)
+  largest-units = sized-units (ofBits binary32 (largest n)) false (patternUnits (largest n)) (unsigned-at (largest n) (largest-lt n))
 
   -- where x's square is not above n, x's size is at most the largest
-  size-le : (x : Float) → Number x → square (units x) ≤ n → units x ≤ sized (largest n)
+  size-le : (x : Float) → Number x → square (units x) ≤ n → units x ≤ patternUnits (largest n)
   size-le x h k =
       let l = size-lt x (h .held) (sized-finite x (h .sign) (units x) (h .exact)) in
       let e = units-size x (h .held) l in
-      rw e (sized-mono (sizeOf x) (largest n) (no-higher (under n) (largest n) (sizeOf x) (largest-top n) (under-intro n (sizeOf x) l (rw e at k))))
+      rw e (pattern-mono (sizeOf x) (largest n) (no-higher (under n) (largest n) (sizeOf x) (largest-top n) (under-intro n (sizeOf x) l (rw e at k))))
 
   no-larger : (x : Float) → Number x → square (units x) ≤ n → T (le x (ofBits binary32 (largest n)))
   no-larger x h k = go (h .sign) (h .exact)
     where
       go : (s : Bool) → Sized x s (units x) → T (le x (ofBits binary32 (largest n)))
-      go true u = negative-le x (ofBits binary32 (largest n)) (units x) (sized (largest n)) u (unsigned-at (largest n) (largest-lt n))
+      go true u = negative-le x (ofBits binary32 (largest n)) (units x) (patternUnits (largest n)) u (unsigned-at (largest n) (largest-lt n))
       go false u =
-          le-of-values x (ofBits binary32 (largest n)) (units x) (2 ^ 149) (sized (largest n)) (2 ^ 149) (pow-pos 149) (pow-pos 149) u
+          le-of-values x (ofBits binary32 (largest n)) (units x) (2 ^ 149) (patternUnits (largest n)) (2 ^ 149) (pow-pos 149) (pow-pos 149) u
           (unsigned-at (largest n) (largest-lt n)) (mul-le-mul-right (2 ^ 149) (size-le x h k))
 
 largest-law : (re im : Float) → Number re → Number im → LargestUnder re im (ofBits binary32 (largest (square (units re) + square (units im))))

@@ -12,7 +12,7 @@ use lib.Ieee.Bits.{ofBits-toBits, nanBits-above, is-false}
 use lib.Ieee.Compare.{differs-from-itself}
 use lib.Ieee.Scale.{finite}
 use Rattle.magnitude.specs.Magnitude.{units, square, largest, magnitudeOf}
-use Rattle.magnitude.specs.Pattern.{sizeOf, sized}
+use Rattle.magnitude.specs.Pattern.{sizeOf, patternUnits}
 use Rattle.magnitude.proofs.Largest.{largest-lt}
 use Rattle.magnitude.proofs.Values.{Sized, sized-finite, sized-units, number-at, no-number-at}
 
@@ -44,14 +44,14 @@ no-number (fin s m e) f h =
     let x = fin s m e in
     ap finite (sym (ofBits-toBits binary32 x f)) ∙ no-number-at (toBits binary32 x) h
 
-pub number : (x : Float) → T (fits binary32 x) → sizeOf x < 0x7f80_0000 → Sized x (leb 0x8000_0000 (toBits binary32 x)) (sized (sizeOf x))
+pub number : (x : Float) → T (fits binary32 x) → sizeOf x < 0x7f80_0000 → Sized x (leb 0x8000_0000 (toBits binary32 x)) (patternUnits (sizeOf x))
 unfolding sizeOf
 number nan f h = absurd (lt-irrefl 0x7f80_0000 h)
 number (inf s) f h = rw ofBits-toBits at (number-at (toBits binary32 (inf s)) h)
 number (fin s m e) f h = rw ofBits-toBits at (number-at (toBits binary32 (fin s m e)) h)
 
-pub units-size : (x : Float) → T (fits binary32 x) → sizeOf x < 0x7f80_0000 → units x ≡ sized (sizeOf x)
-units-size x f h = sized-units x (leb 0x8000_0000 (toBits binary32 x)) (sized (sizeOf x)) (number x f h)
+pub units-size : (x : Float) → T (fits binary32 x) → sizeOf x < 0x7f80_0000 → units x ≡ patternUnits (sizeOf x)
+units-size x f h = sized-units x (leb 0x8000_0000 (toBits binary32 x)) (patternUnits (sizeOf x)) (number x f h)
 
 pub size-lt : (x : Float) → T (fits binary32 x) → finite x ≡ true → sizeOf x < 0x7f80_0000
 size-lt x f h = lt-of-not-le (λ g. absurd (true≢false (sym h ∙ no-number x f g)))
@@ -79,7 +79,7 @@ not-nan-bits p h =
     rw (nanBits-above, m, le-ltb 0x7f80_0000 p (omega arith)) tt
 
 pub two-sizes : (re im : Float) (p : ℕ) → T (fits binary32 re) → T (fits binary32 im)
-    → (let n = max (sizeOf re) (sizeOf im) in (n < 0x7f80_0000 → p ≡ largest (square (sized (sizeOf re)) + square (sized (sizeOf im)))) × (0x7f80_0000 ≤ n → p ≡ 0))
+    → (let n = max (sizeOf re) (sizeOf im) in (n < 0x7f80_0000 → p ≡ largest (square (patternUnits (sizeOf re)) + square (patternUnits (sizeOf im)))) × (0x7f80_0000 ≤ n → p ≡ 0))
     → T (not (nanBits binary32 p)) × (ofBits binary32 p ≡ magnitudeOf re im)
 two-sizes re im p f g r = elim (eq-zero-or-pos (0x7f80_0000 - max (sizeOf re) (sizeOf im))) [
   | inl z ↦
@@ -89,7 +89,7 @@ two-sizes re im p f g r = elim (eq-zero-or-pos (0x7f80_0000 - max (sizeOf re) (s
       let x : sizeOf re < 0x7f80_0000 = omega arith in
       let y : sizeOf im < 0x7f80_0000 = omega arith in
       let e = r .0 (omega arith) in (
-        not-nan-bits p (rw e (largest-lt (square (sized (sizeOf re)) + square (sized (sizeOf im))))),
+        not-nan-bits p (rw e (largest-lt (square (patternUnits (sizeOf re)) + square (patternUnits (sizeOf im))))),
         rw (two-numbers re im (sized-finite re _ _ (number re f x)) (sized-finite im _ _ (number im g y)), units-size re f x, units-size im g y, e),
       )
 ]

@@ -13,7 +13,7 @@ use lib.Ieee.Exact.{HasValue, odd-sign}
 use lib.Ieee.Fits.{down-pos}
 use lib.Ieee.Scale.{finite}
 use Rattle.magnitude.specs.Magnitude.{units}
-use Rattle.magnitude.specs.Pattern.{exponentOf, significandOf, sized}
+use Rattle.magnitude.specs.Pattern.{exponentOf, significandOf, patternUnits}
 
 -- x is a units with the sign s
 abbrev pub Sized : Float → Bool → ℕ → Type 0
@@ -51,35 +51,35 @@ top-field s t = either (eqb t 0)
     either true = refl
     either false = refl
 
--- ---- the value of a pattern: `sized`, with the sign's bit taken off
-sized-at : (p m e : ℕ) → significandOf p ≡ m → exponentOf p ≡ e → sized p ≡ m * 2 ^ e
-sized-at p m e x y = rw (x, y)
+-- ---- the value of a pattern: `patternUnits`, with the sign's bit taken off
+pattern-at : (p m e : ℕ) → significandOf p ≡ m → exponentOf p ≡ e → patternUnits p ≡ m * 2 ^ e
+pattern-at p m e x y = rw (x, y)
 
 number-of-field : (i x : ℕ) → i % 0x8000_0000 < 0x7f80_0000 → i % 0x8000_0000 / 0x80_0000 ≡ x
-    → Sized (ofFields binary32 (leb 0x8000_0000 i) x (i % 0x80_0000)) (leb 0x8000_0000 i) (sized (i % 0x8000_0000))
-number-of-field i zero h e = rw (sized-at (i % 0x8000_0000) (i % 0x80_0000) 0 (omega arith) (omega arith)) (low-field (leb 0x8000_0000 i) (i % 0x80_0000))
+    → Sized (ofFields binary32 (leb 0x8000_0000 i) x (i % 0x80_0000)) (leb 0x8000_0000 i) (patternUnits (i % 0x8000_0000))
+number-of-field i zero h e = rw (pattern-at (i % 0x8000_0000) (i % 0x80_0000) 0 (omega arith) (omega arith)) (low-field (leb 0x8000_0000 i) (i % 0x80_0000))
 number-of-field i (suc x) h e =
-    rw (sized-at (i % 0x8000_0000) (0x80_0000 + i % 0x80_0000) x (omega arith) (omega arith)) (high-field (leb 0x8000_0000 i) x (i % 0x80_0000) (omega arith))
+    rw (pattern-at (i % 0x8000_0000) (0x80_0000 + i % 0x80_0000) x (omega arith) (omega arith)) (high-field (leb 0x8000_0000 i) x (i % 0x80_0000) (omega arith))
 
-pub number-at : (i : ℕ) → i % 0x8000_0000 < 0x7f80_0000 → Sized (ofBits binary32 i) (leb 0x8000_0000 i) (sized (i % 0x8000_0000))
+pub number-at : (i : ℕ) → i % 0x8000_0000 < 0x7f80_0000 → Sized (ofBits binary32 i) (leb 0x8000_0000 i) (patternUnits (i % 0x8000_0000))
 number-at i h = rw fields (number-of-field i (i % 0x8000_0000 / 0x80_0000) h refl)
 
 pub no-number-at : (i : ℕ) → 0x7f80_0000 ≤ i % 0x8000_0000 → finite (ofBits binary32 i) ≡ false
 no-number-at i h = let top : i % 0x8000_0000 / 0x80_0000 ≡ 255 = omega arith in rw (fields, top) (top-field (leb 0x8000_0000 i) (i % 0x80_0000))
 
 -- a pattern with no sign
-pub unsigned-at : (p : ℕ) → p < 0x7f80_0000 → Sized (ofBits binary32 p) false (sized p)
+pub unsigned-at : (p : ℕ) → p < 0x7f80_0000 → Sized (ofBits binary32 p) false (patternUnits p)
 unsigned-at p h =
     let e : p % 0x8000_0000 ≡ p = omega arith in
     let s : leb 0x8000_0000 p ≡ false = lt-leb 0x8000_0000 p (omega arith) in
     rw (s, e) at (number-at p (omega arith))
 
 -- ---- the order of the patterns is that of the values
-pub sized-mono : (p q : ℕ) → p ≤ q → sized p ≤ sized q
-sized-mono p q h =
+pub pattern-mono : (p q : ℕ) → p ≤ q → patternUnits p ≤ patternUnits q
+pattern-mono p q h =
     let l : exponentOf p ≤ exponentOf q = omega arith in
     elim (eq-or-lt-of-le l) [
-      | inl e ↦ subst (λ (x : ℕ). sized p ≤ significandOf q * 2 ^ x) e (mul-le-mul-right (2 ^ exponentOf p) (significands p q h e))
+      | inl e ↦ subst (λ (x : ℕ). patternUnits p ≤ significandOf q * 2 ^ x) e (mul-le-mul-right (2 ^ exponentOf p) (significands p q h e))
       | inr k ↦
           le-trans (mul-le-mul-right (2 ^ exponentOf p) (twice p))
           (le-trans (le-of-eq (mul-assoc 0x80_0000 2 (2 ^ exponentOf p) ∙ ap (λ (x : ℕ). 0x80_0000 * x) (sym (pow-succ' 2 (exponentOf p)))))
@@ -108,14 +108,14 @@ pack-significand e g (inl n) h = omega arith
 pack-significand e g (inr n) h = omega arith
 
 -- one digit more carries into the exponent
-carried : (e : ℕ) → sized (e * 0x80_0000 + 0x100_0000) ≡ 0x100_0000 * 2 ^ e
+carried : (e : ℕ) → patternUnits (e * 0x80_0000 + 0x100_0000) ≡ 0x100_0000 * 2 ^ e
 carried e =
-    sized-at (e * 0x80_0000 + 0x100_0000) 0x80_0000 (suc e) (omega arith) (omega arith)
+    pattern-at (e * 0x80_0000 + 0x100_0000) 0x80_0000 (suc e) (omega arith) (omega arith)
     ∙ ap (λ (x : ℕ). 0x80_0000 * x) (pow-succ' 2 e)
     ∙ sym (mul-assoc 0x80_0000 2 (2 ^ e))
 
-pub sized-pack : (e g : ℕ) → Normal e g → g ≤ 0x100_0000 → sized (e * 0x80_0000 + g) ≡ g * 2 ^ e
-sized-pack e g n h = elim (eq-or-lt-of-le h) [
+pub pattern-pack : (e g : ℕ) → Normal e g → g ≤ 0x100_0000 → patternUnits (e * 0x80_0000 + g) ≡ g * 2 ^ e
+pattern-pack e g n h = elim (eq-or-lt-of-le h) [
   | inl p ↦ rw p (carried e)
-  | inr l ↦ sized-at (e * 0x80_0000 + g) g e (pack-significand e g n l) (pack-exponent e g n l)
+  | inr l ↦ pattern-at (e * 0x80_0000 + g) g e (pack-significand e g n l) (pack-exponent e g n l)
 ]

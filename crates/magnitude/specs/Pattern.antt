@@ -17,8 +17,8 @@ abbrev pub significandOf : ℕ → ℕ
 significandOf p = p - exponentOf p * 0x80_0000
 
 -- the value in units
-abbrev pub sized : ℕ → ℕ
-sized p = significandOf p * 2 ^ exponentOf p
+abbrev pub patternUnits : ℕ → ℕ
+patternUnits p = significandOf p * 2 ^ exponentOf p
 
 -- the largest pattern that stands for at most g · 2 ^ e units, for a g below 2 ^ 25, and of 2 ^ 23 at least where e is above 0
 abbrev pub packedOf : ℕ → ℕ → ℕ

@@ -8,7 +8,7 @@ ghost use lib.Ieee.{nan, binary32, binary64, isNan, lt, ofBits, toBits};
 ghost use lib.ListN.{length, getD};
 ghost use Prim.Native.Nat.{ℕ, _+_, _*_, _/_, _^_, _<_, _≤_, max};
 ghost use Rattle.magnitude.specs.Magnitude.{magnitudeOf, magnitudesIn, largest, square};
-ghost use Rattle.magnitude.specs.Pattern.{sizeOf, exponentOf, significandOf, sized, packedOf};
+ghost use Rattle.magnitude.specs.Pattern.{sizeOf, exponentOf, significandOf, patternUnits, packedOf};
 
 // The bit pattern of x without its sign.
 fn size(x: f32) -> u32
@@ -110,7 +110,7 @@ fn packed(e: u32, g: u64) -> u32
 // larger part's exponent, the whole part of the square root has at most 25 digits.
 fn larger_first(a: u32, b: u32) -> u32
     requires { ⌜ (b ≤ a) × (a < 0x7f80_0000) ⌝ }
-    ensures { λ r. ⌜ r ≡ largest (square (sized a) + square (sized b)) ⌝ }
+    ensures { λ r. ⌜ r ≡ largest (square (patternUnits a) + square (patternUnits b)) ⌝ }
 {
     let e = exponent(a);
     let m = significand(a);
@@ -120,7 +120,7 @@ fn larger_first(a: u32, b: u32) -> u32
 
 // The pattern of the magnitude from those of its parts; 0 where a part is infinite.
 fn pattern(x: u32, y: u32) -> u32
-    ensures { λ r. ⌜ (max x y < 0x7f80_0000 → r ≡ largest (square (sized x) + square (sized y))) × (0x7f80_0000 ≤ max x y → r ≡ 0) ⌝ }
+    ensures { λ r. ⌜ (max x y < 0x7f80_0000 → r ≡ largest (square (patternUnits x) + square (patternUnits y))) × (0x7f80_0000 ≤ max x y → r ≡ 0) ⌝ }
 {
     if x >= 0x7f80_0000 {
         return 0;

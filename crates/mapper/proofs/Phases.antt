@@ -4,10 +4,10 @@ use mathlib.Core.Bool.{Bool, true, false}
 use Prim.Native.Nat.{ℕ, _+_, _%_, _≤_}
 use native.Mathlib.Omega.{arith}
 use Rattle.dsp_types.specs.Phases.{phaseOf, modulo8}
-use Rattle.mapper.specs.Dqpsk.{bitOf, turnOf, nextPhase}
+use Rattle.mapper.specs.Dqpsk.{turnOf, nextPhase}
 
 pub turn-small : (bit0 bit1 : Bool) → turnOf bit0 bit1 ≤ 7
-unfolding bitOf phaseOf modulo8 turnOf
+unfolding phaseOf modulo8 turnOf
 turn-small true true = omega arith
 turn-small true false = omega arith
 turn-small false true = omega arith

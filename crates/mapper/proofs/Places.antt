@@ -13,7 +13,7 @@ use Rattle.dsp_types.proofs.IntLaws.{less, same}
 use Rattle.dsp_types.specs.Refusals.{lastCounter, outOfCount, wrongLength, notBits}
 use Rattle.mapper.specs.declared.Due.{Due}
 use Rattle.mapper.specs.declared.Due.the-variants.{Refused, Silence, Symbol}
-use Rattle.mapper.specs.Due.{bitsRefusal, slotRefusal, inputRefusal, bitAt, symbolAt, dueIn, dueAt, dueIf}
+use Rattle.mapper.specs.Due.{bitsRefusal, slotRefusal, inputRefusal, bitAt, symbolDue, dueIn, dueAt, dueIf}
 
 pub true-ne : true ≡ false → ⊥
 true-ne e = let z : _≡_ {A = ℕ} 0 1 = cc in omega arith
@@ -101,7 +101,7 @@ unfolding dueIn
 between-in true bits p e h = rw (ne-eqb (p % 4) 0 h)
 between-in false bits p e h = absurd (true-ne e)
 
-symbol-in : (b : Bool) (bits : List ℕ) (p : ℕ) → not b ≡ false → p % 4 ≡ 0 → symbolAt bits p ≡ dueIn b bits p
+symbol-in : (b : Bool) (bits : List ℕ) (p : ℕ) → not b ≡ false → p % 4 ≡ 0 → symbolDue bits p ≡ dueIn b bits p
 unfolding dueIn
 symbol-in true bits p e h = rw (eq-eqb (p % 4) 0 h)
 symbol-in false bits p e h = absurd (true-ne e)
@@ -115,7 +115,7 @@ module _ (n start : ℕ) (b : Bool) (bits : List ℕ) (h : start ≤ n) (k : n -
 
   pub symbol : not b ≡ false → (n - start) % 4 ≡ 0 → (i : ℕ) → i ≡ (n - start) / 4 * 2
       → Symbol (bitAt bits i) (bitAt bits (i + 1)) ≡ dueAt b bits (pos n -ℤ pos start)
-  unfolding symbolAt
+  unfolding symbolDue
   symbol e f i g =
       let j : i ≡ 2 * ((n - start) / 4) = omega (arith, g) in
       rw j (symbol-in b bits _ e f ∙ sym (within n start b bits h k))

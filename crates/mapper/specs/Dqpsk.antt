@@ -1,19 +1,14 @@
 -- The mapper (01, "Burst bits", "The sender"; modulator.rs, `DqpskMapper::symbol`): phases in eighths of a turn, and their points. Definitions only.
 use Prim.Native.Nat.{ℕ, _+_, _%_}
-use mathlib.Core.Bool.{Bool, true, false}
+use mathlib.Core.Bool.{Bool}
 use mathlib.Core.List.{List, [], _∷_}
 use lib.ListN.{getD}
 use lib.Ieee.{Float, binary32, nan, ofBits}
 use Rattle.dsp_types.specs.declared.ComplexSample.{ComplexSample}
-use Rattle.dsp_types.specs.Phases.{phaseOf, modulo8}
+use Rattle.dsp_types.specs.Phases.{bitOf, phaseOf, modulo8}
 use Rattle.dsp_types.specs.Samples.{silence}
 use Rattle.mapper.specs.declared.Due.{Due}
 use Rattle.mapper.specs.declared.Due.the-variants.{Refused, Silence, Symbol}
-
--- a bit as a bit byte (01, "Refusals", 4)
-unfoldable pub bitOf : Bool → ℕ
-bitOf false = 0
-bitOf true = 1
 
 -- the phase of a symbol's two bits, modulo 8 (01, "The sender")
 unfoldable pub turnOf : Bool → Bool → ℕ

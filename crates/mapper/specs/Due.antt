@@ -41,12 +41,12 @@ unfoldable pub bitAt : List ℕ → ℕ → Bool
 bitAt bits i = not (eqb (getD bits i 0) 0)
 
 -- the symbol that starts at place n of a slot, at every fourth sample
-unfoldable pub symbolAt : List ℕ → ℕ → Due
-symbolAt bits n = Symbol (bitAt bits (2 * (n / 4))) (bitAt bits (2 * (n / 4) + 1))
+unfoldable pub symbolDue : List ℕ → ℕ → Due
+symbolDue bits n = Symbol (bitAt bits (2 * (n / 4))) (bitAt bits (2 * (n / 4) + 1))
 
 -- within a slot: a symbol, where the slot has bits and one starts here
 unfoldable pub dueIn : Bool → List ℕ → ℕ → Due
-dueIn hasBits bits n = cond (hasBits && eqb (n % 4) 0) (symbolAt bits n) Silence
+dueIn hasBits bits n = cond (hasBits && eqb (n % 4) 0) (symbolDue bits n) Silence
 
 -- a slot in the future feeds silence, one in the past needs the next
 unfoldable pub dueAt : Bool → List ℕ → ℤ → Due
@@ -63,7 +63,7 @@ unfoldable pub dueOf : ℤ → ℕ → Bool → List ℕ → Due
 dueOf counter slot hasBits bits = dueIf (inputRefusal counter slot hasBits bits) (dueAt hasBits bits (placeIn counter (startOf slot)))
 
 -- the number by which a call is refused, or 0
-unfoldable pub refusalOf : Due → ℕ
-refusalOf (Refused n) = n
-refusalOf Silence = accepted
-refusalOf (Symbol bit0 bit1) = accepted
+unfoldable pub dueRefusal : Due → ℕ
+dueRefusal (Refused n) = n
+dueRefusal Silence = accepted
+dueRefusal (Symbol bit0 bit1) = accepted

@@ -14,7 +14,7 @@ ghost use mathlib.Core.Path.{_≡_};
 ghost use Prim.Native.Nat.{_<_, _^_};
 ghost use lib.IntN.{pos, _-ℤ_};
 ghost use Rattle.dsp_types.specs.Refusals.{outOfCount};
-ghost use Rattle.mapper.specs.Due.{bitsRefusal, inputRefusal, startOf, bitAt, dueAt, dueOf, refusalOf};
+ghost use Rattle.mapper.specs.Due.{bitsRefusal, inputRefusal, startOf, bitAt, dueAt, dueOf, dueRefusal};
 
 fn is_out_of_count(counter: i64) -> bool
     ensures { λ r. ⌜ r ≡ outOfCount counter ⌝ }
@@ -106,7 +106,7 @@ pub fn due_now(counter: SampleCount, slot: TdmaTime, has_bits: bool, bits: &[u8]
 
 // The number by which a call is refused, or 0.
 pub fn refusal_now(counter: SampleCount, slot: TdmaTime, has_bits: bool, bits: &[u8]) -> u32
-    ensures { λ r. ⌜ r ≡ refusalOf (dueOf (counter .0) (slot .0) «has_bits» (now (bits .entry))) ⌝ }
+    ensures { λ r. ⌜ r ≡ dueRefusal (dueOf (counter .0) (slot .0) «has_bits» (now (bits .entry))) ⌝ }
 {
     let due = due_now(counter, slot, has_bits, bits);
     match due {

@@ -9,8 +9,8 @@ use Rattle.dsp_types.specs.Refusals.{wrongLength}
 use Rattle.slotter.specs.declared.Burst.{Burst}
 use Rattle.slotter.specs.declared.Answer.{Answer}
 use Rattle.slotter.specs.declared.Answer.the-variants.{Built, Refused}
-use Rattle.slotter.specs.Bursts.{Told, told}
-use Rattle.modem.specs.Build.{unless, buildRefusal, lentBurst}
+use Rattle.slotter.specs.Bursts.{BuilderReply, builderReply}
+use Rattle.modem.specs.Build.{lentUnless, buildRefusal, lentBurst}
 
 -- ---- the copy
 
@@ -30,22 +30,22 @@ copy-all (x ∷ from) (y ∷ to) (suc n) h l = ap (λ (r : List ℕ). x ∷ r) (
 
 -- ---- what a call returns and leaves
 
-pub told-bits : (burst : Burst) → burst .bits ≡ told burst .bits
-unfolding told
+pub told-bits : (burst : Burst) → burst .bits ≡ builderReply burst .bits
+unfolding builderReply
 told-bits burst = go (burst .answer) (burst .bits)
   where
-    go : (answer : Answer) (bits : List ℕ) → bits ≡ told (record { answer = answer; bits = bits }) .bits
+    go : (answer : Answer) (bits : List ℕ) → bits ≡ builderReply (record { answer = answer; bits = bits }) .bits
     go (Built first last) bits = refl
     go (Refused n) bits = refl
 
-module _ (burst : Told) (bits : List ℕ) where
+module _ (burst : BuilderReply) (bits : List ℕ) where
   module _ (n : length bits ≡ 510 → ⊥) where
     pub bad-room : 3 ≡ buildRefusal burst bits
     unfolding buildRefusal wrongLength
     bad-room = rw (ne-eqb (length bits) 510 n)
 
     pub kept-room : bits ≡ lentBurst burst bits
-    unfolding lentBurst unless
+    unfolding lentBurst lentUnless
     kept-room = rw (← bad-room)
 
   module _ (e : length bits ≡ 510) (number : ℕ) (t : number ≡ burst .number) where
@@ -54,13 +54,13 @@ module _ (burst : Told) (bits : List ℕ) where
     builder's = rw (eq-eqb (length bits) 510 e) t
 
     pub filled : number ≡ 0 → burst .bits ≡ lentBurst burst bits
-    unfolding lentBurst unless
+    unfolding lentBurst lentUnless
     filled z = rw (← builder's, z)
 
     pub kept : (number ≡ 0 → ⊥) → bits ≡ lentBurst burst bits
-    unfolding lentBurst unless
+    unfolding lentBurst lentUnless
     kept z = rw (← builder's) (go number z)
       where
-        go : (m : ℕ) → (m ≡ 0 → ⊥) → bits ≡ unless m (burst .bits) bits
+        go : (m : ℕ) → (m ≡ 0 → ⊥) → bits ≡ lentUnless m (burst .bits) bits
         go zero z = absurd (z refl)
         go (suc m) z = refl

@@ -9,23 +9,23 @@ use Rattle.receiver.specs.declared.feed.Stop.the-variants as Stop
 use Rattle.slot_receiver.specs.Calls.{Reply, refused, done, took}
 
 -- 01, "Refusals": the refusal's number, or 0
-unfoldable pub refusalOf : {Slot : Type 0} → Reply Slot → ℕ
-refusalOf (refused n) = n
-refusalOf done = accepted
-refusalOf (took s) = accepted
+unfoldable pub replyNumber : {Slot : Type 0} → Reply Slot → ℕ
+replyNumber (refused n) = n
+replyNumber done = accepted
+replyNumber (took s) = accepted
 
 -- 01, "Refusals": a refusal returns its number alone, so the slot beside it is all zeros
 abbrev pub noBurst : RxBurst
 noBurst = record { «train_type» = 0; «train_errs» = 0; «burst_pos» = 0; «burst_len» = 0 }
 
-abbrev pub noSlot : RxSlot
-noSlot = record { time = record { 0 = 0 }; full = noBurst; subslot1 = noBurst; subslot2 = noBurst }
+abbrev pub emptySlot : RxSlot
+emptySlot = record { time = record { 0 = 0 }; full = noBurst; subslot1 = noBurst; subslot2 = noBurst }
 
 -- the slot that was taken
-unfoldable pub slotOf : Reply RxSlot → RxSlot
-slotOf (refused n) = noSlot
-slotOf done = noSlot
-slotOf (took s) = s
+unfoldable pub slotTaken : Reply RxSlot → RxSlot
+slotTaken (refused n) = emptySlot
+slotTaken done = emptySlot
+slotTaken (took s) = s
 
 -- 01, "The receiver": whether a block ended with a sample that handed a slot over
 abbrev pub handsSlot : Stop → Bool

@@ -5,7 +5,7 @@ use mathlib.Core.List.{List, [], _∷_}
 use lib.Dec.{eqb}
 use Rattle.dsp_types.specs.declared.ComplexSample.{ComplexSample}
 use Rattle.dsp_types.specs.Samples.{silence}
-use Rattle.modulator.specs.Sender.{Told, Sender, senderOf}
+use Rattle.modulator.specs.Sender.{SenderReply, Sender, senderOf}
 use Rattle.modem.specs.declared.sender.TetraSender.{TetraSender}
 
 -- bits are given where the number is not 0
@@ -17,10 +17,10 @@ unfoldable pub senderIn : TetraSender → Sender
 senderIn s = senderOf (s .modulator) (s .mapper)
 
 -- the first sample of a list; silence where it has none
-unfoldable pub firstOf : List ComplexSample → ComplexSample
-firstOf [] = silence
-firstOf (x ∷ xs) = x
+unfoldable pub firstOrSilence : List ComplexSample → ComplexSample
+firstOrSilence [] = silence
+firstOrSilence (x ∷ xs) = x
 
 -- the sample that an answer carries; a refusal carries none
-unfoldable pub sampleTold : Told → ComplexSample
-sampleTold t = firstOf (t .samples)
+unfoldable pub sampleTold : SenderReply → ComplexSample
+sampleTold t = firstOrSilence (t .samples)

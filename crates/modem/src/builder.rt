@@ -5,12 +5,12 @@ use slotter::Answer;
 use slotter::Burst;
 ghost use mathlib.Core.Path.{_≡_};
 ghost use lib.ListN.{length};
-ghost use Rattle.slotter.specs.Bursts.{told, syncBurst, normalBurst};
+ghost use Rattle.slotter.specs.Bursts.{builderReply, syncBurst, normalBurst};
 ghost use Rattle.modem.specs.Build.{buildRefusal, lentBurst};
 
 // 0, or the refusal's number.
 fn number(burst: Burst) -> u32
-    ensures { λ r. ⌜ r ≡ told burst .number ⌝ }
+    ensures { λ r. ⌜ r ≡ builderReply burst .number ⌝ }
 {
     let answer = burst.answer;
     match answer {
@@ -30,8 +30,8 @@ fn copy(from: &[u8], to: &mut [u8])
 
 // Fills 510 lent bytes with a burst and returns 0, or returns the refusal's number and leaves them alone.
 fn lend(burst: Burst, bits: &mut [u8]) -> u32
-    ensures refusal { λ r. ⌜ r ≡ buildRefusal (told burst) (now (bits .entry)) ⌝ }
-    ensures bits { λ r. ⌜ now (bits .exit) ≡ lentBurst (told burst) (now (bits .entry)) ⌝ }
+    ensures refusal { λ r. ⌜ r ≡ buildRefusal (builderReply burst) (now (bits .entry)) ⌝ }
+    ensures bits { λ r. ⌜ now (bits .exit) ≡ lentBurst (builderReply burst) (now (bits .entry)) ⌝ }
 {
     if bits.len() != 510 {
         return BAD_LENGTH;

@@ -9,7 +9,7 @@ ghost use mathlib.Core.Path.{_≡_};
 ghost use Prim.Native.Nat.{_/_};
 ghost use lib.ListN.{length};
 ghost use Rattle.mapper.specs.Due.{dueOf};
-ghost use Rattle.modulator.specs.Sender.{told, newSender, tells, after};
+ghost use Rattle.modulator.specs.Sender.{senderReply, newSender, tells, senderAfter};
 ghost use Rattle.modulator.specs.Blocks.{dueAfter, blockCall, Wrote};
 ghost use Rattle.modem.specs.Send.{isGiven, senderIn, sampleTold};
 
@@ -44,7 +44,7 @@ struct Parts {
 }
 
 fn told_parts(answer: Answer) -> Parts
-    ensures { λ r. ⌜ (r .refusal ≡ told answer .number) × (record { re = r .re; im = r .im } ≡ sampleTold (told answer)) ⌝ }
+    ensures { λ r. ⌜ (r .refusal ≡ senderReply answer .number) × (record { re = r .re; im = r .im } ≡ sampleTold (senderReply answer)) ⌝ }
 {
     match answer {
         Answer::Sample { re, im } => Parts {
@@ -81,7 +81,7 @@ pub extern "C" fn tetra_send_sample(
 ) -> TetraSentSample
     ensures refusal { λ r. ⌜ r .refusal ≡ tells (senderIn sender) (dueOf counter slot (isGiven «has_bits») (now (bits .entry))) .number ⌝ }
     ensures sample { λ r. ⌜ record { re = r .re; im = r .im } ≡ sampleTold (tells (senderIn sender) (dueOf counter slot (isGiven «has_bits») (now (bits .entry)))) ⌝ }
-    ensures sender { λ r. ⌜ senderIn (r .sender) ≡ after (senderIn sender) (dueOf counter slot (isGiven «has_bits») (now (bits .entry))) ⌝ }
+    ensures sender { λ r. ⌜ senderIn (r .sender) ≡ senderAfter (senderIn sender) (dueOf counter slot (isGiven «has_bits») (now (bits .entry))) ⌝ }
     ensures kept { λ r. ⌜ ((r .refusal ≡ 0 → ⊥) → r .sender ≡ sender) ⌝ }
 {
     let state = sender.modulator;

@@ -21,7 +21,7 @@ ghost use Rattle.slot_receiver.specs.Calls.{sampleOutcome, takeOutcome, followO
 ghost use Rattle.receiver.specs.Feed.{interleaved, feedOf};
 ghost use Rattle.slot_receiver.specs.View.{modeOf, modeNumber, modeFollowing};
 ghost use Rattle.receiver.specs.View.{receiverOf, Untouched};
-ghost use Rattle.modem.specs.Receive.{refusalOf, slotOf, noSlot, handsSlot, stopRefusal};
+ghost use Rattle.modem.specs.Receive.{replyNumber, slotTaken, emptySlot, handsSlot, stopRefusal};
 
 // 0 or the refusal's number, and the next state.
 #[repr(C)]
@@ -60,7 +60,7 @@ fn mode_of(number: u32) -> Mode
 }
 
 fn answer_number(answer: Answer) -> u32
-    ensures { λ r. ⌜ r ≡ refusalOf (replyOf answer) ⌝ }
+    ensures { λ r. ⌜ r ≡ replyNumber (replyOf answer) ⌝ }
 {
     match answer {
         Answer::Accepted => ACCEPTED,
@@ -69,7 +69,7 @@ fn answer_number(answer: Answer) -> u32
 }
 
 fn take_number(answer: TakeAnswer) -> u32
-    ensures { λ r. ⌜ r ≡ refusalOf (takeReplyOf answer) ⌝ }
+    ensures { λ r. ⌜ r ≡ replyNumber (takeReplyOf answer) ⌝ }
 {
     match answer {
         TakeAnswer::Slot(_) => ACCEPTED,
@@ -79,7 +79,7 @@ fn take_number(answer: TakeAnswer) -> u32
 
 // A refusal's slot is all zeros.
 fn no_slot() -> RxSlot
-    ensures { λ r. ⌜ r ≡ noSlot ⌝ }
+    ensures { λ r. ⌜ r ≡ emptySlot ⌝ }
 {
     let none = RxBurst {
         train_type: 0,
@@ -96,7 +96,7 @@ fn no_slot() -> RxSlot
 }
 
 fn take_slot(answer: TakeAnswer) -> RxSlot
-    ensures { λ r. ⌜ r ≡ slotOf (takeReplyOf answer) ⌝ }
+    ensures { λ r. ⌜ r ≡ slotTaken (takeReplyOf answer) ⌝ }
 {
     match answer {
         TakeAnswer::Slot(slot) => slot,
@@ -145,7 +145,7 @@ pub extern "C" fn tetra_state_sample(
     im: f32,
     counter: i64,
 ) -> TetraAnswered
-    ensures refusal { λ r. ⌜ r .refusal ≡ refusalOf (sampleOutcome (receiverOf state (now («past_re» .entry)) (now («past_im» .entry)) (now («past_abs» .entry))) (record { re = re; im = im }) counter .reply) ⌝ }
+    ensures refusal { λ r. ⌜ r .refusal ≡ replyNumber (sampleOutcome (receiverOf state (now («past_re» .entry)) (now («past_im» .entry)) (now («past_abs» .entry))) (record { re = re; im = im }) counter .reply) ⌝ }
     ensures receiver { λ r. ⌜ receiverOf (r .state) (now («past_re» .exit)) (now («past_im» .exit)) (now («past_abs» .exit)) ≡ sampleOutcome (receiverOf state (now («past_re» .entry)) (now («past_im» .entry)) (now («past_abs» .entry))) (record { re = re; im = im }) counter .receiver ⌝ }
     ensures refused { λ r. ⌜ ((r .refusal ≡ 0 → ⊥) → Untouched state (r .state) (now («past_re» .entry)) (now («past_re» .exit)) (now («past_im» .entry)) (now («past_im» .exit)) (now («past_abs» .entry)) (now («past_abs» .exit))) ⌝ }
 {
@@ -196,8 +196,8 @@ pub extern "C" fn tetra_state_take(
     subslot1: &mut [u8],
     subslot2: &mut [u8],
 ) -> TetraTaken
-    ensures refusal { λ r. ⌜ ((re im abs : List Float) → r .refusal ≡ refusalOf (inNumbers (takeOutcome (receiverOf state re im abs) (now (slot .entry)) (now (subslot1 .entry)) (now (subslot2 .entry)) .reply))) ⌝ }
-    ensures slot { λ r. ⌜ ((re im abs : List Float) → r .slot ≡ slotOf (inNumbers (takeOutcome (receiverOf state re im abs) (now (slot .entry)) (now (subslot1 .entry)) (now (subslot2 .entry)) .reply))) ⌝ }
+    ensures refusal { λ r. ⌜ ((re im abs : List Float) → r .refusal ≡ replyNumber (inNumbers (takeOutcome (receiverOf state re im abs) (now (slot .entry)) (now (subslot1 .entry)) (now (subslot2 .entry)) .reply))) ⌝ }
+    ensures slot { λ r. ⌜ ((re im abs : List Float) → r .slot ≡ slotTaken (inNumbers (takeOutcome (receiverOf state re im abs) (now (slot .entry)) (now (subslot1 .entry)) (now (subslot2 .entry)) .reply))) ⌝ }
     ensures receiver { λ r. ⌜ ((re im abs : List Float) → receiverOf (r .state) re im abs ≡ takeOutcome (receiverOf state re im abs) (now (slot .entry)) (now (subslot1 .entry)) (now (subslot2 .entry)) .receiver) ⌝ }
     ensures lent { λ r. ⌜ ((re im abs : List Float) → now (slot .exit) ∷ now (subslot1 .exit) ∷ now (subslot2 .exit) ∷ [] ≡ takeOutcome (receiverOf state re im abs) (now (slot .entry)) (now (subslot1 .entry)) (now (subslot2 .entry)) .lent) ⌝ }
     ensures refused { λ r. ⌜ ((r .refusal ≡ 0 → ⊥) → r .state ≡ state) ⌝ }
@@ -215,7 +215,7 @@ pub extern "C" fn tetra_state_take(
 // Takes the slot timing of another receiver. A receiver that finds its own is refused. The past has no part in it.
 #[no_mangle]
 pub extern "C" fn tetra_state_follow(state: State, other: State) -> TetraAnswered
-    ensures refusal { λ r. ⌜ ((re im abs re₂ im₂ abs₂ : List Float) → r .refusal ≡ refusalOf (followOutcome (receiverOf state re im abs) (receiverOf other re₂ im₂ abs₂) .reply)) ⌝ }
+    ensures refusal { λ r. ⌜ ((re im abs re₂ im₂ abs₂ : List Float) → r .refusal ≡ replyNumber (followOutcome (receiverOf state re im abs) (receiverOf other re₂ im₂ abs₂) .reply)) ⌝ }
     ensures receiver { λ r. ⌜ ((re im abs re₂ im₂ abs₂ : List Float) → receiverOf (r .state) re im abs ≡ followOutcome (receiverOf state re im abs) (receiverOf other re₂ im₂ abs₂) .receiver) ⌝ }
     ensures mode { λ r. ⌜ (r .refusal ≡ 0 → r .state .slots .mode ≡ modeFollowing (modeOf (other .slots .mode)) (state .slots .mode)) ⌝ }
     ensures refused { λ r. ⌜ ((r .refusal ≡ 0 → ⊥) → r .state ≡ state) ⌝ }

@@ -23,9 +23,9 @@ use Rattle.fir.proofs.Rows.{rest}
 use Rattle.mapper.specs.declared.Due.{Due}
 use Rattle.mapper.specs.declared.Due.the-variants.{Refused, Silence, Symbol}
 use Rattle.mapper.specs.Dqpsk.{phaseAfter, inputOf}
-use Rattle.mapper.specs.Due.{inputRefusal, startOf, placeIn, symbolAt, dueIn, dueAt, dueIf, dueOf, refusalOf}
-use Rattle.modulator.specs.Sender.{shapedOf, toldOf, nextLine, Told, Sender, fedBy, tells, after}
-use Rattle.modulator.specs.Blocks.{Block, joinedIf, joined, sentBlock, blockCall, dueAfter, partsOf, Wrote, placeDue, inputsOf, phasesOf, fedBlock, leftOf}
+use Rattle.mapper.specs.Due.{inputRefusal, startOf, placeIn, symbolDue, dueIn, dueAt, dueIf, dueOf, dueRefusal}
+use Rattle.modulator.specs.Sender.{shapedOf, toldOf, nextLine, SenderReply, Sender, filterInput, tells, senderAfter}
+use Rattle.modulator.specs.Blocks.{SentBlock, joinedIf, joined, sentBlock, blockCall, dueAfter, partsOf, Wrote, placeDue, inputsOf, phasesOf, fedBlock, leftOf}
 use Rattle.mapper.proofs.Places.{true-ne, early, late, within, slot-accepted}
 
 -- it is not a refusal
@@ -37,22 +37,22 @@ Sends (Symbol bit0 bit1) = Unit {0}
 -- ---- calls one by one
 
 -- the block of a call that is not refused and of those behind it
-then : (s : Sender) (d : Due) (rest : Block) → Sends d
-    → joined (tells s d) (after s d) rest ≡ record { outs = filterOf (ago silence (fedBy s d ∷ s .line)) ∷ rest .outs; refusal = rest .refusal; sender = rest .sender }
+then : (s : Sender) (d : Due) (rest : SentBlock) → Sends d
+    → joined (tells s d) (senderAfter s d) rest ≡ record { outs = filterOf (ago silence (filterInput s d ∷ s .line)) ∷ rest .outs; refusal = rest .refusal; sender = rest .sender }
 unfolding joined joinedIf tells toldOf shapedOf
 then s (Refused n) rest h = absurd h
 then s Silence rest h = refl
 then s (Symbol bit0 bit1) rest h = refl
 
-moved : (s : Sender) (d : Due) → Sends d → after s d ≡ record { line = take 32 (fedBy s d ∷ s .line); phase = phaseAfter (s .phase) d }
-unfolding after nextLine
+moved : (s : Sender) (d : Due) → Sends d → senderAfter s d ≡ record { line = take 32 (filterInput s d ∷ s .line); phase = phaseAfter (s .phase) d }
+unfolding senderAfter nextLine
 moved s (Refused n) h = absurd h
 moved s Silence h = refl
 moved s (Symbol bit0 bit1) h = refl
 
 -- a refused call ends it
 stopped : (due : ℕ → Due) (k i r : ℕ) (s : Sender) → due i ≡ Refused (suc r) → sentBlock due (suc k) i s ≡ record { outs = []; refusal = suc r; sender = s }
-unfolding sentBlock joined joinedIf tells toldOf after nextLine phaseAfter
+unfolding sentBlock joined joinedIf tells toldOf senderAfter nextLine phaseAfter
 stopped due k i r s e = rw e
 
 module _ (due : ℕ → Due) where
@@ -61,7 +61,7 @@ module _ (due : ℕ → Due) where
       → let xs = inputsOf due n i (s .phase) in
       let rest = sentBlock due k at (record { line = lineAfter (s .line) xs; phase = phasesOf due n i (s .phase) }) in
       sentBlock due (n + k) i s ≡ record { outs = outsOf (s .line) xs ++ rest .outs; refusal = rest .refusal; sender = rest .sender }
-  unfolding inputsOf phasesOf lineAfter outsOf sentBlock fedBy
+  unfolding inputsOf phasesOf lineAfter outsOf sentBlock filterInput
   all-sent zero k i at s e h =
       let m : 0 + k ≡ k = omega arith in
       let f : at ≡ i = omega arith in
@@ -73,8 +73,8 @@ module _ (due : ℕ → Due) where
       let t : Sender = record { line = take 32 (x ∷ s .line); phase = phaseAfter (s .phase) d } in
       let g = h i (le-refl i) (omega arith) in
       ap (λ (c : ℕ). sentBlock due c i s) m
-      ∙ then s d (sentBlock due (n + k) (suc i) (after s d)) g
-      ∙ ap (λ (b : Block). record { outs = filterOf (ago silence (x ∷ s .line)) ∷ b .outs; refusal = b .refusal; sender = b .sender })
+      ∙ then s d (sentBlock due (n + k) (suc i) (senderAfter s d)) g
+      ∙ ap (λ (b : SentBlock). record { outs = filterOf (ago silence (x ∷ s .line)) ∷ b .outs; refusal = b .refusal; sender = b .sender })
       (ap (sentBlock due (n + k) (suc i)) (moved s d g) ∙ all-sent n k (suc i) at t (omega arith) (λ j l u. h j (omega arith) (omega arith)))
 
   -- ... where those k are none, or the first of them is refused
@@ -111,10 +111,10 @@ module _ (due other : ℕ → Due) where
 
 module _ (m start : ℕ) (b : Bool) (bits : List ℕ) where
   sends-in : (p : ℕ) → Sends (dueIn b bits p)
-  unfolding dueIn symbolAt
+  unfolding dueIn symbolDue
   sends-in p = go (b && eqb (p % 4) 0)
     where
-      go : (t : Bool) → Sends (cond t (symbolAt bits p) Silence)
+      go : (t : Bool) → Sends (cond t (symbolDue bits p) Silence)
       go true = tt
       go false = tt
 
@@ -302,10 +302,10 @@ module _ (due other : ℕ → Due) (k n : ℕ) (h : (j : ℕ) → other j ≡ du
       → Wrote (fedBlock due (k + n) r s) (k + n) r u out₀ (take (2 * k) out ++ (part ++ drop (length out - 2 * k) (drop (2 * k) out)))
   wrote-more r t u out₀ out part a b = go (subst (λ (v : Sender). Wrote (fedBlock other n 0 v) n 0 u (take (length out - 2 * k) (drop (2 * k) out)) part) (a .sent) b)
     where
-      one : Block
+      one : SentBlock
       one = fedBlock due k r s
 
-      two : Block
+      two : SentBlock
       two = fedBlock other n 0 (one .sender)
 
       go : Wrote two n 0 u (take (length out - 2 * k) (drop (2 * k) out)) part
@@ -340,17 +340,17 @@ first-due first slot b bits =
     let f : first +ℤ pos 0 ≡ first = same (first +ℤ pos 0) first (omega (arith, sum first (pos 0))) in
     rw f
 
-refused-due : (r : ℕ) (d : Due) → suc r ≡ refusalOf d → d ≡ Refused (suc r)
-unfolding refusalOf
+refused-due : (r : ℕ) (d : Due) → suc r ≡ dueRefusal d → d ≡ Refused (suc r)
+unfolding dueRefusal
 refused-due r (Refused n) e = ap Refused (sym e)
 refused-due r Silence e = absurd (omega (arith, e))
 refused-due r (Symbol bit0 bit1) e = absurd (omega (arith, e))
 
 -- it is refused, or there is no room for it
-pub none-sent : (first : ℤ) (slot : ℕ) (b : Bool) (bits : List ℕ) (r room : ℕ) (s : Sender) (out : List Float) → r ≡ refusalOf (dueOf first slot b bits) → (not (eqb r 0) || eqb room 0) ≡ true
+pub none-sent : (first : ℤ) (slot : ℕ) (b : Bool) (bits : List ℕ) (r room : ℕ) (s : Sender) (out : List Float) → r ≡ dueRefusal (dueOf first slot b bits) → (not (eqb r 0) || eqb room 0) ≡ true
     → Wrote (blockCall (dueAfter first slot b bits) room s) 0 r s out out
 unfolding blockCall partsOf startWith
-none-sent first slot b bits r zero s out e h = record { counted = refl; refused = e ∙ ap refusalOf (sym (first-due first slot b bits)); sent = refl; written = refl }
+none-sent first slot b bits r zero s out e h = record { counted = refl; refused = e ∙ ap dueRefusal (sym (first-due first slot b bits)); sent = refl; written = refl }
 none-sent first slot b bits zero (suc room) s out e h = absurd (true-ne (sym h ∙ eqb·suc-zero room))
 none-sent first slot b bits (suc r) (suc room) s out e h =
     rw (stopped (dueAfter first slot b bits) room 0 r s (first-due first slot b bits ∙ refused-due r _ e)) (record { counted = refl; refused = refl; sent = refl; written = refl })
@@ -367,8 +367,8 @@ module _ (r room : ℕ) (h : (not (eqb r 0) || eqb room 0) ≡ false) where
   pub some-room : 0 < room
   some-room = let n = eqb-false room 0 (neither (not (eqb r 0)) (eqb room 0) h .1) in ⊎-elim (λ (l : 1 ≤ room). l) (λ (l : room < 1). absurd (n (omega arith))) (le-or-lt 1 room)
 
-pub input-accepted : (n : ℕ) (d : Due) → refusalOf (dueIf n d) ≡ 0 → n ≡ 0
-unfolding dueIf refusalOf
+pub input-accepted : (n : ℕ) (d : Due) → dueRefusal (dueIf n d) ≡ 0 → n ≡ 0
+unfolding dueIf dueRefusal
 input-accepted zero d e = refl
 input-accepted (suc n) d e = e
 
@@ -377,15 +377,15 @@ unfolding blockCall
 room-called due zero s h = absurd (omega arith)
 room-called due (suc room) s h = refl
 
-pub some-left : (m slot : ℕ) (b : Bool) (bits : List ℕ) → inputRefusal (pos m) slot b bits ≡ 0 → m ≤ lastCounter → refusalOf (dueOf (pos m) slot b bits) ≡ 0 → 0 < leftOf m (startOf slot)
-unfolding refusalOf
+pub some-left : (m slot : ℕ) (b : Bool) (bits : List ℕ) → inputRefusal (pos m) slot b bits ≡ 0 → m ≤ lastCounter → dueRefusal (dueOf (pos m) slot b bits) ≡ 0 → 0 < leftOf m (startOf slot)
+unfolding dueRefusal
 some-left m slot b bits h l e = go (leftOf m (startOf slot)) refl
   where
     go : (n : ℕ) → leftOf m (startOf slot) ≡ n → 0 < n
     go (suc n) f = omega arith
     go zero f =
         let d = past m slot b bits h (omega arith) in
-        absurd (omega (arith, sym e ∙ ap refusalOf (sym (first-due (pos m) slot b bits) ∙ rw f at d)))
+        absurd (omega (arith, sym e ∙ ap dueRefusal (sym (first-due (pos m) slot b bits) ∙ rw f at d)))
 
 pub fed-count : (due : ℕ → Due) (n r count refusal : ℕ) (s t : Sender) (out out′ : List Float) → Wrote (fedBlock due n r s) count refusal t out out′ → count ≡ n
 unfolding fedBlock
@@ -397,7 +397,7 @@ count-within m start h = omega arith
 
 -- ---- a block is no longer than its room
 
-no-longer : (m : ℕ) (t : Told) (s : Sender) (rest : Block) (n : ℕ) → length (t .samples) ≤ 1 → length (rest .outs) ≤ n → length (joinedIf m t s rest .outs) ≤ suc n
+no-longer : (m : ℕ) (t : SenderReply) (s : Sender) (rest : SentBlock) (n : ℕ) → length (t .samples) ≤ 1 → length (rest .outs) ≤ n → length (joinedIf m t s rest .outs) ≤ suc n
 unfolding joinedIf
 no-longer zero t s rest n h k = omega (arith, length-append (t .samples) (rest .outs))
 no-longer (suc m) t s rest n h k = omega arith
@@ -411,7 +411,7 @@ one-sample s (Symbol bit0 bit1) = omega arith
 sent-within : (due : ℕ → Due) (n i : ℕ) (s : Sender) → length (sentBlock due n i s .outs) ≤ n
 unfolding sentBlock joined
 sent-within due zero i s = omega arith
-sent-within due (suc n) i s = no-longer (tells s (due i) .number) (tells s (due i)) (after s (due i)) _ n (one-sample s (due i)) (sent-within due n (suc i) (after s (due i)))
+sent-within due (suc n) i s = no-longer (tells s (due i) .number) (tells s (due i)) (senderAfter s (due i)) _ n (one-sample s (due i)) (sent-within due n (suc i) (senderAfter s (due i)))
 
 -- of what a block call promises
 pub wrote-within : (due : ℕ → Due) (n count r : ℕ) (s t : Sender) (out out′ : List Float) {Kept : Type 0} → Wrote (blockCall due n s) count r t out out′ × Kept → count ≤ n

@@ -11,32 +11,32 @@ use Rattle.dsp_types.specs.Refusals.{accepted, counters}
 use Rattle.fir.specs.Fir.{lineAfter, outsOf, startWith}
 use Rattle.mapper.specs.declared.Due.{Due}
 use Rattle.mapper.specs.Dqpsk.{phaseAfter, inputOf}
-use Rattle.mapper.specs.Due.{placeIn, dueAt, dueOf, refusalOf}
-use Rattle.modulator.specs.Sender.{Told, Sender, tells, after}
+use Rattle.mapper.specs.Due.{placeIn, dueAt, dueOf, dueRefusal}
+use Rattle.modulator.specs.Sender.{SenderReply, Sender, tells, senderAfter}
 
 -- the samples, oldest first, the number of the refusal that stopped them, if any, and the sender then
-pub record Block : Type 0 where
+pub record SentBlock : Type 0 where
   pub outs : List ComplexSample
   pub refusal : ℕ
   pub sender : Sender
 
 -- one call's answer, and the block of the calls behind it
-unfoldable pub joinedIf : ℕ → Told → Sender → Block → Block
+unfoldable pub joinedIf : ℕ → SenderReply → Sender → SentBlock → SentBlock
 joinedIf zero t s rest = record { outs = t .samples ++ rest .outs; refusal = rest .refusal; sender = rest .sender }
 joinedIf (suc n) t s rest = record { outs = []; refusal = suc n; sender = s }
 
 -- a refusal, whose number is not 0, ends the block
-unfoldable pub joined : Told → Sender → Block → Block
+unfoldable pub joined : SenderReply → Sender → SentBlock → SentBlock
 joined t s rest = joinedIf (t .number) t s rest
 
 -- at most n calls, where `due i` is due at the next
-unfoldable pub sentBlock : (ℕ → Due) → ℕ → ℕ → Sender → Block
+unfoldable pub sentBlock : (ℕ → Due) → ℕ → ℕ → Sender → SentBlock
 sentBlock due zero i s = record { outs = []; refusal = accepted; sender = s }
-sentBlock due (suc n) i s = joined (tells s (due i)) (after s (due i)) (sentBlock due n (suc i) (after s (due i)))
+sentBlock due (suc n) i s = joined (tells s (due i)) (senderAfter s (due i)) (sentBlock due n (suc i) (senderAfter s (due i)))
 
 -- a block call with room for n samples. It is refused first, whatever the room is (01, "The sender": checked in every call)
-unfoldable pub blockCall : (ℕ → Due) → ℕ → Sender → Block
-blockCall due zero s = record { outs = []; refusal = refusalOf (due 0); sender = s }
+unfoldable pub blockCall : (ℕ → Due) → ℕ → Sender → SentBlock
+blockCall due zero s = record { outs = []; refusal = dueRefusal (due 0); sender = s }
 blockCall due (suc n) s = sentBlock due (suc n) 0 s
 
 -- what is due i samples after the first
@@ -49,7 +49,7 @@ partsOf [] = []
 partsOf (x ∷ xs) = x .re ∷ x .im ∷ partsOf xs
 
 -- what a block call leaves: the block's samples at the start of the buffer, how many they are, its refusal and its sender
-pub record Wrote (b : Block) (count refusal : ℕ) (sender : Sender) (out out′ : List Float) : Type 0 where
+pub record Wrote (b : SentBlock) (count refusal : ℕ) (sender : Sender) (out out′ : List Float) : Type 0 where
   pub counted : count ≡ length (b .outs)
   pub refused : refusal ≡ b .refusal
   pub sent : sender ≡ b .sender
@@ -72,7 +72,7 @@ phasesOf due zero i phase = phase
 phasesOf due (suc n) i phase = phasesOf due n (suc i) (phaseAfter phase (due i))
 
 -- n samples that are not refused, and the number of the refusal behind them
-unfoldable pub fedBlock : (ℕ → Due) → ℕ → ℕ → Sender → Block
+unfoldable pub fedBlock : (ℕ → Due) → ℕ → ℕ → Sender → SentBlock
 fedBlock due n r s =
     record {
       outs = outsOf (s .line) (inputsOf due n 0 (s .phase));

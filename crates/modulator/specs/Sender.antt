@@ -17,21 +17,21 @@ use Rattle.modulator.specs.declared.sender.Answer.the-variants as answer
 -- ---- the answer, where input is what is fed
 
 -- 01's number of an answer, and the sample that it carries
-pub record Told : Type 0 where
+pub record SenderReply : Type 0 where
   pub number : ℕ
   pub samples : List ComplexSample
 
 -- ... for each case of the enum
-unfoldable pub told : Answer → Told
-told (answer.Sample re im) = record { number = accepted; samples = record { re = re; im = im } ∷ [] }
-told (answer.Refused n) = record { number = n; samples = [] }
+unfoldable pub senderReply : Answer → SenderReply
+senderReply (answer.Sample re im) = record { number = accepted; samples = record { re = re; im = im } ∷ [] }
+senderReply (answer.Refused n) = record { number = n; samples = [] }
 
 -- a sample, shaped by the filter
-unfoldable pub shapedOf : List ComplexSample → ComplexSample → Told
+unfoldable pub shapedOf : List ComplexSample → ComplexSample → SenderReply
 shapedOf line input = record { number = accepted; samples = filterOf (ago silence (input ∷ line)) ∷ [] }
 
 -- what a call tells
-unfoldable pub toldOf : List ComplexSample → ComplexSample → Due → Told
+unfoldable pub toldOf : List ComplexSample → ComplexSample → Due → SenderReply
 toldOf line input (Refused n) = record { number = n; samples = [] }
 toldOf line input Silence = shapedOf line input
 toldOf line input (Symbol bit0 bit1) = shapedOf line input
@@ -58,13 +58,13 @@ unfoldable pub newSender : Sender
 newSender = record { line = replicate 32 silence; phase = 0 }
 
 -- what the filter is fed
-unfoldable pub fedBy : Sender → Due → ComplexSample
-fedBy s d = inputOf (phaseAfter (s .phase) d) d
+unfoldable pub filterInput : Sender → Due → ComplexSample
+filterInput s d = inputOf (phaseAfter (s .phase) d) d
 
 -- what a call answers where d is due
-unfoldable pub tells : Sender → Due → Told
-tells s d = toldOf (s .line) (fedBy s d) d
+unfoldable pub tells : Sender → Due → SenderReply
+tells s d = toldOf (s .line) (filterInput s d) d
 
 -- ... and the sender after it
-unfoldable pub after : Sender → Due → Sender
-after s d = record { line = nextLine (s .line) (fedBy s d) d; phase = phaseAfter (s .phase) d }
+unfoldable pub senderAfter : Sender → Due → Sender
+senderAfter s d = record { line = nextLine (s .line) (filterInput s d) d; phase = phaseAfter (s .phase) d }

@@ -13,7 +13,7 @@ ghost use lib.ListN.{take, replicate};
 ghost use Rattle.dsp_types.specs.Samples.{silence};
 ghost use Rattle.fir.specs.Fir.{lineOf};
 ghost use Rattle.mapper.specs.Due.{dueOf};
-ghost use Rattle.modulator.specs.Sender.{told, shapedOf, toldOf, nextLine, senderOf, tells, after};
+ghost use Rattle.modulator.specs.Sender.{senderReply, shapedOf, toldOf, nextLine, senderOf, tells, senderAfter};
 
 pub enum Answer {
     Sample { re: f32, im: f32 },
@@ -62,7 +62,7 @@ impl Modulator {
 
     // Sends one input through the filter.
     fn shape(self, input: ComplexSample) -> Sampled
-        ensures { λ r. ⌜ (told (r .answer) ≡ shapedOf (lineOf (self .filter)) input)
+        ensures { λ r. ⌜ (senderReply (r .answer) ≡ shapedOf (lineOf (self .filter)) input)
             × (lineOf (r .modulator .filter) ≡ take 32 (input ∷ lineOf (self .filter))) ⌝ }
     {
         let line = self.filter;
@@ -80,7 +80,7 @@ impl Modulator {
 
     // Transmits what is due: its input goes through the filter. A refusal leaves the filter as it is.
     fn transmit(self, due: Due, input: ComplexSample) -> Sampled
-        ensures { λ r. ⌜ (told (r .answer) ≡ toldOf (lineOf (self .filter)) input due)
+        ensures { λ r. ⌜ (senderReply (r .answer) ≡ toldOf (lineOf (self .filter)) input due)
             × (lineOf (r .modulator .filter) ≡ nextLine (lineOf (self .filter)) input due)
             × ((n : ℕ) → due ≡ Due.Refused n → r .modulator ≡ self) ⌝ }
     {
@@ -105,8 +105,8 @@ impl Modulator {
     ) -> Sampled
         ensures { λ r. ⌜
             (let d = dueOf («sample_counter» .0) (slot .0) «has_bits» (now (bits .entry)) in
-            (told (r .answer) ≡ tells (senderOf self (now (mapper .entry))) d)
-            × (senderOf (r .modulator) (now (mapper .exit)) ≡ after (senderOf self (now (mapper .entry))) d)
+            (senderReply (r .answer) ≡ tells (senderOf self (now (mapper .entry))) d)
+            × (senderOf (r .modulator) (now (mapper .exit)) ≡ senderAfter (senderOf self (now (mapper .entry))) d)
             × ((n : ℕ) → r .answer ≡ Answer.Refused n → (r .modulator ≡ self) × (now (mapper .exit) ≡ now (mapper .entry)))) ⌝ }
     {
         let d = due_now(sample_counter, slot, has_bits, bits);
@@ -125,8 +125,8 @@ impl Modulator {
     ) -> Stepped
         ensures { λ r. ⌜
             (let d = dueOf («sample_counter» .0) (slot .0) «has_bits» (now (bits .entry)) in
-            (told (r .answer) ≡ tells (senderOf self mapper) d)
-            × (senderOf (r .modulator) (r .mapper) ≡ after (senderOf self mapper) d)
+            (senderReply (r .answer) ≡ tells (senderOf self mapper) d)
+            × (senderOf (r .modulator) (r .mapper) ≡ senderAfter (senderOf self mapper) d)
             × ((n : ℕ) → r .answer ≡ Answer.Refused n → (r .modulator ≡ self) × (r .mapper ≡ mapper))) ⌝ }
     {
         let sampled = self.sample(&mut mapper, sample_counter, slot, has_bits, bits);

@@ -17,7 +17,7 @@ use Rattle.slot_receiver.specs.Receiver.{Receiver, accept, validCount}
 use Rattle.slot_receiver.specs.Windows.{Window, handsOver, acceptWindows}
 use Rattle.slot_receiver.specs.Calls.{Reply, refused, done, took, unless, sampleRefusal, sampled, sampleOutcome}
 use Rattle.receiver.specs.Feed.{interleaved, Block, fedOne, fedBy, feedOf}
-use Rattle.slot_lines.specs.Blocks.{takeNext, before, takenIf, lineOf, printed, Step, stepBy, stepOf, fromStep}
+use Rattle.slot_lines.specs.Blocks.{takeNext, before, takenIf, takenLine, printed, Step, stepBy, stepOf, fromStep}
 
 counts : (c : ℤ) (n : ℕ) → (c +ℤ pos 1) +ℤ pos n ≡ c +ℤ pos (suc n)
 counts c n = same ((c +ℤ pos 1) +ℤ pos n) (c +ℤ pos (suc n)) (omega (arith, sum (c +ℤ pos 1) (pos n), sum c (pos 1), sum c (pos (suc n))))
@@ -46,16 +46,16 @@ module _ (hasBits : Bool) where
   -- a sample more, which leaves `after` and closes ws where it is not refused, and the others behind it
   module _ (r : Receiver) (x : ComplexSample) (xs : List ComplexSample) (c : ℤ) (after : Receiver) (others : Block) where
     by-slot : printed hasBits after xs (c +ℤ pos 1) ≡ fromStep hasBits (stepFed others) xs (c +ℤ pos 1) → (b : Bool) → let t = takenIf b after in
-        before (lineOf hasBits (t .reply)) (printed hasBits (t .receiver) xs (c +ℤ pos 1)) ≡ fromStep hasBits (stepFed (fedOne b after others)) (x ∷ xs) c
-    unfolding takenIf lineOf before fedOne stepBy fromStep
+        before (takenLine hasBits (t .reply)) (printed hasBits (t .receiver) xs (c +ℤ pos 1)) ≡ fromStep hasBits (stepFed (fedOne b after others)) (x ∷ xs) c
+    unfolding takenIf takenLine before fedOne stepBy fromStep
     by-slot h true = refl
     by-slot h false = h ∙ one-later (others .taken) (others .stop) (others .receiver) x xs c
 
     by-refusal : (n : ℕ) (ws : List Window) → let o = unless n r [] (record { reply = done; receiver = after; windows = ws; lent = [] }) in
         let t = takenIf (handsOver (o .windows)) (o .receiver) in
         printed hasBits (o .receiver) xs (c +ℤ pos 1) ≡ fromStep hasBits (stepFed others) xs (c +ℤ pos 1)
-        → before (lineOf hasBits (t .reply)) (printed hasBits (t .receiver) xs (c +ℤ pos 1)) ≡ fromStep hasBits (stepFed (fedBy (o .reply) r (fedOne (handsOver (o .windows)) (o .receiver) others))) (x ∷ xs) c
-    unfolding unless handsOver takenIf lineOf before fedBy stepBy fromStep
+        → before (takenLine hasBits (t .reply)) (printed hasBits (t .receiver) xs (c +ℤ pos 1)) ≡ fromStep hasBits (stepFed (fedBy (o .reply) r (fedOne (handsOver (o .windows)) (o .receiver) others))) (x ∷ xs) c
+    unfolding unless handsOver takenIf takenLine before fedBy stepBy fromStep
     by-refusal zero ws h = by-slot h (handsOver ws)
     by-refusal (suc n) ws h = refl
 
@@ -117,7 +117,7 @@ module _ (hasBits : Bool) (r : Receiver) (xs : List ComplexSample) (c : ℤ) {n 
   unfolding stepOf stepBy
   at-refused m s g l = rw (← s, g, ← e, ← f, l, add-one n)
 
-  pub at-slot : {stop made : Stop} {m : ℕ} {left : Receiver} → stop ≡ feedOf r xs c .stop → stop ≡ Slot → m ≡ n → made ≡ Slot → line ≡ lineOf hasBits (takeNext after .reply)
+  pub at-slot : {stop made : Stop} {m : ℕ} {left : Receiver} → stop ≡ feedOf r xs c .stop → stop ≡ Slot → m ≡ n → made ≡ Slot → line ≡ takenLine hasBits (takeNext after .reply)
       → left ≡ takeNext after .receiver → record { taken = m; stop = made; line = line; receiver = left } ≡ stepOf hasBits r xs c
   unfolding stepOf stepBy
   at-slot s g k w l t = rw (← s, g, k, w, ← e, ← f, l, t)

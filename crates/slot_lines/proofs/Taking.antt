@@ -23,7 +23,7 @@ use Rattle.slot_receiver.specs.View.{receiverFrom}
 use Rattle.receiver.specs.View.{receiverOf}
 use Rattle.slot_receiver.specs.Calls.{Reply, refused, done, took, unless, taken, takeOutcome, takeReplyOf, inNumbers}
 use Rattle.slot_lines.specs.Lines.{bitsField, slotLine}
-use Rattle.slot_lines.specs.Blocks.{takeNext, lineOf}
+use Rattle.slot_lines.specs.Blocks.{takeNext, takenLine}
 
 -- ---- a slot's line is short
 
@@ -72,8 +72,8 @@ padded-front (suc n) (b ∷ bits) h = ap (λ (l : List ℕ). b ∷ l) (padded-fr
 
 told-line : (hasBits : Bool) (k : ℕ) (r : Receiver) (h : HandedSlot) (lent : List (List ℕ)) (told : RxSlot) (bytes bytes₁ bytes₂ : List ℕ) → length (h .full .bits) ≤ 510
     → let o = unless k r lent (taken r h) in took told ≡ inNumbers (o .reply) → bytes ∷ bytes₁ ∷ bytes₂ ∷ [] ≡ o .lent
-    → cut (slotLine (told .time .0) (told .full .«train_type») (told .full .«train_errs») hasBits (take (told .full .«burst_len») bytes)) ≡ lineOf hasBits (o .reply)
-unfolding unless taken filled inNumbers shown burstShown lineOf
+    → cut (slotLine (told .time .0) (told .full .«train_type») (told .full .«train_errs») hasBits (take (told .full .«burst_len») bytes)) ≡ takenLine hasBits (o .reply)
+unfolding unless taken filled inNumbers shown burstShown takenLine
 told-line hasBits zero r h lent told bytes bytes₁ bytes₂ l e f =
     let t : told ≡ shown h = cc in
     let b : bytes ≡ padded 510 (h .full .bits) = cc in
@@ -84,18 +84,18 @@ told-line hasBits (suc k) r h lent told bytes bytes₁ bytes₂ l e f = absurd (
 module _ (hasBits : Bool) (s : State) (re im abs : List Float) where
   pub slot-line : {t : List ℕ} (answer : TakeAnswer) (told : RxSlot) (bytes bytes₁ bytes₂ : List ℕ)
       → let o = takeNext (receiverOf s re im abs) in takeReplyOf answer ≡ inNumbers (o .reply) → bytes ∷ bytes₁ ∷ bytes₂ ∷ [] ≡ o .lent → answer ≡ TakeAnswer.Slot told
-      → t ≡ cut (slotLine (told .time .0) (told .full .«train_type») (told .full .«train_errs») hasBits (take (told .full .«burst_len») bytes)) → t ≡ lineOf hasBits (o .reply)
+      → t ≡ cut (slotLine (told .time .0) (told .full .«train_type») (told .full .«train_errs») hasBits (take (told .full .«burst_len») bytes)) → t ≡ takenLine hasBits (o .reply)
   unfolding takeNext takeOutcome takeReplyOf
   slot-line answer told bytes bytes₁ bytes₂ e f a g =
       let w = ap takeReplyOf a in
       g ∙ told-line hasBits _ (receiverOf s re im abs) (validSlot (receiverOf s re im abs .slot)) _ told bytes bytes₁ bytes₂ (few s re im abs) (sym w ∙ e) f
 
   pub no-line : {t : List ℕ} (answer : TakeAnswer) (n : ℕ) → let o = takeNext (receiverOf s re im abs) in takeReplyOf answer ≡ inNumbers (o .reply) → answer ≡ TakeAnswer.Refused n → t ≡ []
-      → t ≡ lineOf hasBits (o .reply)
-  unfolding takeReplyOf inNumbers lineOf
+      → t ≡ takenLine hasBits (o .reply)
+  unfolding takeReplyOf inNumbers takenLine
   no-line answer n e a g = g ∙ none (takeNext (receiverOf s re im abs) .reply) (sym (ap takeReplyOf a) ∙ e)
     where
-      none : (reply : Reply HandedSlot) → refused n ≡ inNumbers reply → [] ≡ lineOf hasBits reply
+      none : (reply : Reply HandedSlot) → refused n ≡ inNumbers reply → [] ≡ takenLine hasBits reply
       none (refused m) e = refl
       none done e = refl
       none (took h) e = absurd (let z : _≡_ {A = ℕ} 0 1 = cc in omega arith)

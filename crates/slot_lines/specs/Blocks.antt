@@ -23,10 +23,10 @@ unfoldable pub takeNext : Receiver → Outcome
 takeNext r = takeOutcome r (replicate 510 0) (replicate 254 0) (replicate 254 0)
 
 -- the line of the slot that a take gave, if it gave one
-unfoldable pub lineOf : Bool → Reply HandedSlot → List ℕ
-lineOf hasBits (refused n) = []
-lineOf hasBits done = []
-lineOf hasBits (took h) = slotLine (h .time) (h .full .type) (h .full .errors) hasBits (h .full .bits)
+unfoldable pub takenLine : Bool → Reply HandedSlot → List ℕ
+takenLine hasBits (refused n) = []
+takenLine hasBits done = []
+takenLine hasBits (took h) = slotLine (h .time) (h .full .type) (h .full .errors) hasBits (h .full .bits)
 
 -- ---- a whole block, sample by sample
 
@@ -50,7 +50,7 @@ printed hasBits r [] c = record { lines = []; receiver = r }
 printed hasBits r (x ∷ xs) c =
     let o = sampleOutcome r x c in
     let t = takenIf (handsOver (o .windows)) (o .receiver) in
-    before (lineOf hasBits (t .reply)) (printed hasBits (t .receiver) xs (c +ℤ pos 1))
+    before (takenLine hasBits (t .reply)) (printed hasBits (t .receiver) xs (c +ℤ pos 1))
 
 -- ---- a step on the way: up to the first slot, which is taken, or up to the first refused sample, which is passed over
 
@@ -63,7 +63,7 @@ pub record Step : Type 0 where
 
 unfoldable pub stepBy : Bool → ℕ → Stop → Receiver → Step
 stepBy hasBits n End r = record { taken = n; stop = End; line = []; receiver = r }
-stepBy hasBits n Slot r = let t = takeNext r in record { taken = n; stop = Slot; line = lineOf hasBits (t .reply); receiver = t .receiver }
+stepBy hasBits n Slot r = let t = takeNext r in record { taken = n; stop = Slot; line = takenLine hasBits (t .reply); receiver = t .receiver }
 stepBy hasBits n (Refused m) r = record { taken = suc n; stop = Refused m; line = []; receiver = r }
 
 unfoldable pub stepOf : Bool → Receiver → List ComplexSample → ℤ → Step

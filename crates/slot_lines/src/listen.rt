@@ -14,7 +14,7 @@ ghost use Rattle.text.specs.Text.{textOf};
 ghost use Rattle.receiver.specs.declared.feed.Stop.the-variants as Stop;
 ghost use Rattle.receiver.specs.Feed.{interleaved};
 ghost use Rattle.receiver.specs.View.{receiverOf};
-ghost use Rattle.slot_lines.specs.Blocks.{takeNext, lineOf, printed, stepOf, fromStep, stepMade};
+ghost use Rattle.slot_lines.specs.Blocks.{takeNext, takenLine, printed, stepOf, fromStep, stepMade};
 
 // How many samples are done with, why no more are, what is printed, and the receiver after them.
 pub struct Heard {
@@ -27,7 +27,7 @@ pub struct Heard {
 // Takes the slot that waits behind so many samples.
 fn take_line(taken: usize, state: State, has_bits: bool) -> Heard
     ensures stop { λ r. ⌜ (r .taken ≡ taken) × (r .stop ≡ Stop.Slot) ⌝ }
-    ensures line { λ r. ⌜ ((re im abs : List Float) → textOf (r .line) ≡ lineOf «has_bits» (takeNext (receiverOf state re im abs) .reply)) ⌝ }
+    ensures line { λ r. ⌜ ((re im abs : List Float) → textOf (r .line) ≡ takenLine «has_bits» (takeNext (receiverOf state re im abs) .reply)) ⌝ }
     ensures receiver { λ r. ⌜ ((re im abs : List Float) → receiverOf (r .state) re im abs ≡ takeNext (receiverOf state re im abs) .receiver) ⌝ }
 {
     let mut slot = [0u8; 510];

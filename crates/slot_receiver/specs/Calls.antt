@@ -5,7 +5,7 @@ use mathlib.Core.List.{List, [], _∷_}
 use lib.IntN.{ℤ}
 use lib.Signed.{ltZ}
 use Rattle.dsp_types.specs.declared.ComplexSample.{ComplexSample}
-use Rattle.dsp_types.specs.Refusals.{accepted, badSample, badCounter, badLength, pastCounter, noSlot, notFollowing, beyond, outOfCount, wrongLength}
+use Rattle.dsp_types.specs.Refusals.{accepted, badSample, badCounter, badLength, pastCounter, noSlotWaits, notFollowing, beyond, outOfCount, wrongLength}
 use Rattle.rx_slot.specs.declared.RxSlot.{RxSlot}
 use Rattle.rx_slot.specs.Slots.{HandedSlot, validSlot, shown, filled}
 use Rattle.slot_receiver.specs.declared.Answer.{Answer}
@@ -51,7 +51,7 @@ sampleOutcome r x c = unless (sampleRefusal (validCount (r .next)) x c) r [] (sa
 
 unfoldable pub takeRefusal : {A : Type 0} → List A → List A → List A → Bool → ℕ
 takeRefusal slot first second waits =
-    cond (wrongLength 510 slot || (wrongLength 254 first || wrongLength 254 second)) badLength (cond waits accepted noSlot)
+    cond (wrongLength 510 slot || (wrongLength 254 first || wrongLength 254 second)) badLength (cond waits accepted noSlotWaits)
 
 unfoldable pub taken : Receiver → HandedSlot → Outcome
 taken r h = record { reply = took h; receiver = withWaits r false; windows = []; lent = filled h }

@@ -11,7 +11,7 @@ ghost use mathlib.Core.Bool.{cond};
 ghost use mathlib.Core.List.{[], _∷_};
 ghost use Prim.Native.Nat.{ℕ};
 ghost use lib.IntN.{ℤ};
-ghost use Rattle.dsp_types.specs.Refusals.{accepted, badLength, noSlot};
+ghost use Rattle.dsp_types.specs.Refusals.{accepted, badLength, noSlotWaits};
 ghost use Rattle.listener.specs.Signal.{Signal};
 ghost use Rattle.slot_receiver.specs.Calls.{takeOutcome, takeReplyOf, inNumbers};
 ghost use Rattle.slot_receiver.specs.View.{receiverFrom};
@@ -28,7 +28,7 @@ pub struct Taken {
 
 // 0, or the refusal of a take.
 fn take_refusal(wrong_length: bool, available: bool) -> u32
-    ensures { λ r. ⌜ r ≡ cond «wrong_length» badLength (cond available accepted noSlot) ⌝ }
+    ensures { λ r. ⌜ r ≡ cond «wrong_length» badLength (cond available accepted noSlotWaits) ⌝ }
 {
     if wrong_length {
         return BAD_LENGTH;

@@ -10,7 +10,7 @@ use lib.ListN.{length}
 use lib.Dec.{ltb, eqb}
 use borrow.Author.Tests.{ltb-true, ltb-false}
 use Rattle.dsp_types.specs.Phases.{phaseOf, modulo8}
-use Rattle.slotter.specs.Phases.{phaseSum, closes, adjustment}
+use Rattle.slotter.specs.Phases.{phaseSum, cancels, adjustment}
 
 sub-modulo : (a b : ℕ) → modulo8 (subℕ a (suc b)) ≡ (a % 8 + (7 - b % 8)) % 8
 unfolding modulo8
@@ -50,23 +50,23 @@ sum-parity (a ∷ b ∷ bits) (suc n) e =
 
 -- ---- modulo 8 there are eight cases
 
--- `closes` and `adjustment` of a sum that is m modulo 8
-closesAt : ℕ → ℕ → ℕ → Bool
+-- `cancels` and `adjustment` of a sum that is m modulo 8
+cancelsAt : ℕ → ℕ → ℕ → Bool
 unfolding modulo8 phaseOf
-closesAt m a b = eqb ((modulo8 (phaseOf a b) + m) % 8) 0
+cancelsAt m a b = eqb ((modulo8 (phaseOf a b) + m) % 8) 0
 
-closes-at : (sum : ℤ) (a b : ℕ) → closes sum a b ≡ closesAt (modulo8 sum) a b
-unfolding closes closesAt
-closes-at sum a b = ap (λ n. eqb n 0) (modulo8-sum (phaseOf a b) sum)
+cancels-at : (sum : ℤ) (a b : ℕ) → cancels sum a b ≡ cancelsAt (modulo8 sum) a b
+unfolding cancels cancelsAt
+cancels-at sum a b = ap (λ n. eqb n 0) (modulo8-sum (phaseOf a b) sum)
 
 unfoldable pub adjustmentAt : ℕ → List ℕ
-unfolding closesAt
+unfolding cancelsAt
 adjustmentAt m =
-    cond (closesAt m 0 0) (0 ∷ 0 ∷ []) (cond (closesAt m 0 1) (0 ∷ 1 ∷ []) (cond (closesAt m 1 0) (1 ∷ 0 ∷ []) (1 ∷ 1 ∷ [])))
+    cond (cancelsAt m 0 0) (0 ∷ 0 ∷ []) (cond (cancelsAt m 0 1) (0 ∷ 1 ∷ []) (cond (cancelsAt m 1 0) (1 ∷ 0 ∷ []) (1 ∷ 1 ∷ [])))
 
 pub adjustment-at : (sum : ℤ) → adjustment sum ≡ adjustmentAt (modulo8 sum)
 unfolding adjustment adjustmentAt
-adjustment-at sum = rw (closes-at sum 0 0, closes-at sum 0 1, closes-at sum 1 0)
+adjustment-at sum = rw (cancels-at sum 0 0, cancels-at sum 0 1, cancels-at sum 1 0)
 
 at-modulo : (sum : ℤ) (m : ℕ) → modulo8 sum ≡ m → adjustment sum ≡ adjustmentAt m
 at-modulo sum m e = adjustment-at sum ∙ ap adjustmentAt e
@@ -85,7 +85,7 @@ odd-cases P p₁ p₃ p₅ p₇ m h e =
 
 -- The adjustment's phase plus an odd sum is 0 modulo 8,
 pub adjustment-closes : (sum : ℤ) → modulo8 sum % 2 ≡ 1 → modulo8 (phaseSum (adjustment sum) +ℤ sum) ≡ 0
-unfolding modulo8 phaseSum phaseOf closesAt adjustmentAt
+unfolding modulo8 phaseSum phaseOf cancelsAt adjustmentAt
 adjustment-closes sum odd =
     modulo8-sum (phaseSum (adjustment sum)) sum
     ∙ ap (λ bits. (modulo8 (phaseSum bits) + modulo8 sum) % 8) (adjustment-at sum)
@@ -93,7 +93,7 @@ adjustment-closes sum odd =
 
 -- and no other symbol's is.
 pub adjustment-only : (sum : ℤ) (a b : ℕ) → a < 2 → b < 2 → modulo8 (phaseOf a b +ℤ sum) ≡ 0 → adjustment sum ≡ a ∷ b ∷ []
-unfolding modulo8 phaseOf closesAt adjustmentAt
+unfolding modulo8 phaseOf cancelsAt adjustmentAt
 adjustment-only sum zero zero h k e = at-modulo sum 7 (omega (arith, e, modulo8-sum (pos 1) sum, modulo8-lt sum))
 adjustment-only sum zero (suc zero) h k e = at-modulo sum 5 (omega (arith, e, modulo8-sum (pos 3) sum, modulo8-lt sum))
 adjustment-only sum (suc zero) zero h k e = at-modulo sum 1 (omega (arith, e, modulo8-sum (negsuc 0) sum, modulo8-lt sum))

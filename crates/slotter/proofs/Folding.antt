@@ -13,7 +13,7 @@ use mir.Syntax.{w32}
 use mir.Val.{SFits, toZ, ofZ}
 use mir.ValLaws.{toZ-ofZ}
 use Rattle.dsp_types.specs.Phases.{phaseOf, modulo8}
-use Rattle.slotter.specs.Phases.{phaseSum, closes, adjustment}
+use Rattle.slotter.specs.Phases.{phaseSum, cancels, adjustment}
 use Rattle.slotter.proofs.Adjustment.{adjustmentAt, adjustment-at, odd-cases, modulo8-lt}
 
 -- what the code's three branches make of a remainder
@@ -76,7 +76,7 @@ rest-is z f = rw (toZ-ofZ w32 z f, toZ-ofZ w32 _ (rest-fits z))
 -- the adjustment is one of four symbols
 symbols : (P : List ℕ → Type 0) → P (0 ∷ 0 ∷ []) → P (0 ∷ 1 ∷ []) → P (1 ∷ 0 ∷ []) → P (1 ∷ 1 ∷ []) → (z : ℤ) → P (adjustment z)
 unfolding adjustment
-symbols P p₁ p₃ p₋₁ p₋₃ z = go (closes z 0 0) (closes z 0 1) (closes z 1 0)
+symbols P p₁ p₃ p₋₁ p₋₃ z = go (cancels z 0 0) (cancels z 0 1) (cancels z 1 0)
   where
     go : (a b c : Bool) → P (cond a (0 ∷ 0 ∷ []) (cond b (0 ∷ 1 ∷ []) (cond c (1 ∷ 0 ∷ []) (1 ∷ 1 ∷ []))))
     go true b c = p₁

@@ -17,7 +17,7 @@ use Rattle.slotter.proofs.Windows.{first-odd, last-odd}
 use Rattle.slotter.proofs.Folding.{adjustment-length}
 use Rattle.slotter.proofs.Fields.{training-length}
 use Rattle.slotter.proofs.Refusal.{right-lengths}
-use Rattle.slotter.proofs.Answers.{answered-number, answered-bits}
+use Rattle.slotter.proofs.Answers.{burst-number, burst-bits}
 
 -- the law of a place: a field stands where what is before it ends
 pub at-place : (f e : ℕ) (l p s t : List ℕ) → l ≡ p ++ s ++ t → length p ≡ f → f + length s ≡ e → slice f e l ≡ s
@@ -154,13 +154,13 @@ normal-downlink k blk1 bbk blk2 l m r =
 pub sync-places : (blk1 bbk blk2 : List ℕ) → syncBurst blk1 bbk blk2 .number ≡ accepted → SyncPlaces blk1 bbk blk2 (syncBurst blk1 bbk blk2 .bits)
 unfolding syncBurst
 sync-places blk1 bbk blk2 e =
-    let z = sym (answered-number _ _ _) ∙ e in
+    let z = sym (burst-number _ _ _) ∙ e in
     let l = right-lengths 120 blk1 bbk blk2 0 z in
-    rw (answered-bits _ 108 (syncFields blk1 bbk blk2) z) (sync-downlink blk1 bbk blk2 (l .0) (l .1) (l .2))
+    rw (burst-bits _ 108 (syncFields blk1 bbk blk2) z) (sync-downlink blk1 bbk blk2 (l .0) (l .1) (l .2))
 
 pub normal-places : (k : ℕ) (blk1 bbk blk2 : List ℕ) → normalBurst k blk1 bbk blk2 .number ≡ accepted → NormalPlaces k blk1 bbk blk2 (normalBurst k blk1 bbk blk2 .bits)
 unfolding normalBurst
 normal-places k blk1 bbk blk2 e =
-    let z = sym (answered-number _ _ _) ∙ e in
+    let z = sym (burst-number _ _ _) ∙ e in
     let l = right-lengths 216 blk1 bbk blk2 (trainingRefusal k) z in
-    rw (answered-bits _ 122 (normalFields (trainingOf k) blk1 bbk blk2) z) (normal-downlink k blk1 bbk blk2 (l .0) (l .1) (l .2))
+    rw (burst-bits _ 122 (normalFields (trainingOf k) blk1 bbk blk2) z) (normal-downlink k blk1 bbk blk2 (l .0) (l .1) (l .2))

@@ -67,38 +67,38 @@ unfoldable pub trainingRefusal : ℕ → ℕ
 trainingRefusal n = cond (eqb n 1 || eqb n 2) accepted badTraining
 
 -- an answer in 01's terms: its number, the sums of the two windows, and the 510 bits
-pub record Told : Type 0 where
+pub record BuilderReply : Type 0 where
   pub number : ℕ
   pub sums : List ℤ
   pub bits : List ℕ
 
 -- the number and the values of each case: a burst has no refusal's number and two sums, a refusal its number alone
-unfoldable pub told : Burst → Told
-told burst = tell (burst .answer) (burst .bits)
+unfoldable pub builderReply : Burst → BuilderReply
+builderReply burst = tell (burst .answer) (burst .bits)
   where
-    tell : Answer → List ℕ → Told
+    tell : Answer → List ℕ → BuilderReply
     tell (Built first last) bits = record { number = accepted; sums = first ∷ last ∷ []; bits = bits }
     tell (Refused n) bits = record { number = n; sums = []; bits = bits }
 
 -- a refusal returns its number alone: no sums, and every bit 0
-unfoldable pub refusal : ℕ → Told
+unfoldable pub refusal : ℕ → BuilderReply
 refusal n = record { number = n; sums = []; bits = replicate 510 0 }
 
 -- the answer with that number: the burst of those fields, or the refusal
-unfoldable pub answered : ℕ → ℕ → List ℕ → Told
-answered zero last fields =
+unfoldable pub burstUnless : ℕ → ℕ → List ℕ → BuilderReply
+burstUnless zero last fields =
     record {
       number = accepted;
       sums = phaseSum (firstWindow last fields) ∷ phaseSum (lastWindow last fields) ∷ [];
       bits = downlink last fields;
     }
-answered (suc n) last fields = refusal (suc n)
+burstUnless (suc n) last fields = refusal (suc n)
 
 -- what `build_sdb` answers
-unfoldable pub syncBurst : List ℕ → List ℕ → List ℕ → Told
-syncBurst blk1 bbk blk2 = answered (blockRefusal 120 blk1 bbk blk2 accepted) syncCut (syncFields blk1 bbk blk2)
+unfoldable pub syncBurst : List ℕ → List ℕ → List ℕ → BuilderReply
+syncBurst blk1 bbk blk2 = burstUnless (blockRefusal 120 blk1 bbk blk2 accepted) syncCut (syncFields blk1 bbk blk2)
 
 -- what `build_ndb` answers
-unfoldable pub normalBurst : ℕ → List ℕ → List ℕ → List ℕ → Told
+unfoldable pub normalBurst : ℕ → List ℕ → List ℕ → List ℕ → BuilderReply
 normalBurst n blk1 bbk blk2 =
-    answered (blockRefusal 216 blk1 bbk blk2 (trainingRefusal n)) normalCut (normalFields (trainingOf n) blk1 bbk blk2)
+    burstUnless (blockRefusal 216 blk1 bbk blk2 (trainingRefusal n)) normalCut (normalFields (trainingOf n) blk1 bbk blk2)

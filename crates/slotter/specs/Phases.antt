@@ -13,13 +13,13 @@ phaseSum (a ∷ []) = pos 0
 phaseSum (a ∷ b ∷ bits) = phaseOf a b +ℤ phaseSum bits
 
 -- whether a symbol's phase plus a window's sum is 0 modulo 8
-unfoldable pub closes : ℤ → ℕ → ℕ → Bool
-closes sum a b = eqb (modulo8 (phaseOf a b +ℤ sum)) 0
+unfoldable pub cancels : ℤ → ℕ → ℕ → Bool
+cancels sum a b = eqb (modulo8 (phaseOf a b +ℤ sum)) 0
 
--- the adjustment bits of a window with that sum: of the four symbols, the one whose phase closes it (no window's sum is even)
+-- the adjustment bits of a window with that sum: of the four symbols, the one whose phase cancels it (no window's sum is even)
 unfoldable pub adjustment : ℤ → List ℕ
 adjustment sum =
-    cond (closes sum 0 0) (0 ∷ 0 ∷ [])
-    (cond (closes sum 0 1) (0 ∷ 1 ∷ [])
-    (cond (closes sum 1 0) (1 ∷ 0 ∷ [])
+    cond (cancels sum 0 0) (0 ∷ 0 ∷ [])
+    (cond (cancels sum 0 1) (0 ∷ 1 ∷ [])
+    (cond (cancels sum 1 0) (1 ∷ 0 ∷ [])
     (1 ∷ 1 ∷ [])))

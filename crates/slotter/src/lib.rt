@@ -19,7 +19,7 @@ ghost use Rattle.dsp_types.specs.Refusals.{wrongLength};
 ghost use Rattle.train_consts.specs.Training.{normal3};
 ghost use Rattle.dsp_types.specs.Phases.{phaseOf, modulo8};
 ghost use Rattle.slotter.specs.Phases.{phaseSum, adjustment};
-ghost use Rattle.slotter.specs.Bursts.{trainingOf, blockRefusal, trainingRefusal, told, refusal, answered, syncBurst, normalBurst};
+ghost use Rattle.slotter.specs.Bursts.{trainingOf, blockRefusal, trainingRefusal, builderReply, refusal, burstUnless, syncBurst, normalBurst};
 
 // How a builder answers. The bits stand beside it, since an enum holds no array.
 pub enum Answer {
@@ -37,7 +37,7 @@ pub struct Burst {
 
 // The answer that refuses.
 fn refused(number: u32) -> Burst
-    ensures { λ r. ⌜ told r ≡ refusal number ⌝ }
+    ensures { λ r. ⌜ builderReply r ≡ refusal number ⌝ }
 {
     Burst {
         answer: Answer::Refused(number),
@@ -169,7 +169,7 @@ fn framed(bits: [u8; 510], first: [u8; 2], last: [u8; 2]) -> [u8; 510]
 // The burst with the fields that stand at 14 to 498. Its first window ends with the symbol `last`.
 fn adjusted(bits: [u8; 510], last: usize) -> Burst
     requires { ⌜ (7 ≤ last) × (last ≤ 249) × (last % 2 ≡ 0) ⌝ }
-    ensures { λ r. ⌜ told r ≡ answered 0 last (take 484 (drop 14 bits)) ⌝ }
+    ensures { λ r. ⌜ builderReply r ≡ burstUnless 0 last (take 484 (drop 14 bits)) ⌝ }
 {
     let cut = 2 * last;
     let first_sum = sum_up_phase(&bits[14..cut]);
@@ -183,7 +183,7 @@ fn adjusted(bits: [u8; 510], last: usize) -> Burst
 // The burst of five fields, 484 bits in all, whose first window ends with the symbol `last`.
 fn joined(last: usize, a: &[u8], b: &[u8], c: &[u8], d: &[u8], e: &[u8]) -> Burst
     requires { ⌜ (7 ≤ last) × (last ≤ 249) × (last % 2 ≡ 0) × (length (now a) + length (now b) + length (now c) + length (now d) + length (now e) ≡ 484) ⌝ }
-    ensures { λ r. ⌜ told r ≡ answered 0 last (now (a .entry) ++ now (b .entry) ++ now (c .entry) ++ now (d .entry) ++ now (e .entry)) ⌝ }
+    ensures { λ r. ⌜ builderReply r ≡ burstUnless 0 last (now (a .entry) ++ now (b .entry) ++ now (c .entry) ++ now (d .entry) ++ now (e .entry)) ⌝ }
 {
     let mut bits = [0; 510];
     let mut at = put(&mut bits, 14, a);
@@ -196,7 +196,7 @@ fn joined(last: usize, a: &[u8], b: &[u8], c: &[u8], d: &[u8], e: &[u8]) -> Burs
 
 // Clause 9.4.4.2.6, synchronization continuous downlink burst: blocks of 120, 30 and 216 bits.
 pub fn build_sdb(blk1: &[u8], bbk: &[u8], blk2: &[u8]) -> Burst
-    ensures { λ r. ⌜ told r ≡ syncBurst (now (blk1 .entry)) (now (bbk .entry)) (now (blk2 .entry)) ⌝ }
+    ensures { λ r. ⌜ builderReply r ≡ syncBurst (now (blk1 .entry)) (now (bbk .entry)) (now (blk2 .entry)) ⌝ }
 {
     let number = block_refusal(120, blk1, bbk, blk2, ACCEPTED);
     if number != ACCEPTED {
@@ -209,7 +209,7 @@ pub fn build_sdb(blk1: &[u8], bbk: &[u8], blk2: &[u8]) -> Burst
 
 // Clause 9.4.4.2.5, normal continuous downlink burst: training sequence 1 or 2, blocks of 216, 30 and 216 bits.
 pub fn build_ndb(train: u32, blk1: &[u8], bbk: &[u8], blk2: &[u8]) -> Burst
-    ensures { λ r. ⌜ told r ≡ normalBurst train (now (blk1 .entry)) (now (bbk .entry)) (now (blk2 .entry)) ⌝ }
+    ensures { λ r. ⌜ builderReply r ≡ normalBurst train (now (blk1 .entry)) (now (bbk .entry)) (now (blk2 .entry)) ⌝ }
 {
     let number = block_refusal(216, blk1, bbk, blk2, training_refusal(train));
     if number != ACCEPTED {

@@ -1,13 +1,13 @@
 -- `block_text::answer` meets its contract: characters are refused, or make a burst, as the definition judges them.
 use mathlib.Core.Path.{sym, _∙_}
-use Rattle.slotter.specs.Bursts.{told, refusal}
+use Rattle.slotter.specs.Bursts.{builderReply, refusal}
 use Rattle.block_text.proofs.Judged.{refuses, accepts, right-count}
 use borrow.Author.Needs.{needs}
 use Rattle.block_text.proofs.answer.Statement.{statement}
 use Rattle.block_text.proofs.answer.Tie as tie
 
 returns : tie.Need-returns
-unfolding told refusal
+unfolding builderReply refusal
 returns c =
     let r = c .before in
     refuses (r .before .before .args .kind) (r .refusal-of .result) _ (r .refusal-of .ensures) (c .if1 .taken)

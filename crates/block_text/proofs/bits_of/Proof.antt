@@ -5,13 +5,13 @@ use Prim.Native.Nat.{_≤_, _<_, _-_}
 use native.Mathlib.Omega.{arith}
 use lib.ListN.{length, take, drop, replicate}
 use borrow.Author.Needs.{needs}
-use Rattle.block_text.specs.BlockText.{bitOf}
+use Rattle.block_text.specs.BlockText.{characterBit}
 use Rattle.block_text.proofs.Characters.{bit-more, bit-none}
 use Rattle.block_text.proofs.bits_of.Statement.{statement}
 use Rattle.block_text.proofs.bits_of.Tie as tie
 
 abbrev Inv-loop : tie.InvT-loop
-Inv-loop characters bits₀ i₀ i-end bits i = (i ≤ length characters) × (i-end ≡ length characters) × (bits ≡ take i (map bitOf characters) ++ drop i (replicate 462 0))
+Inv-loop characters bits₀ i₀ i-end bits i = (i ≤ length characters) × (i-end ≡ length characters) × (bits ≡ take i (map characterBit characters) ++ drop i (replicate 462 0))
 
 abbrev μ-loop : tie.MeasureT-loop
 μ-loop characters bits₀ i₀ i-end bits i = length characters - i

@@ -4,7 +4,7 @@ use mathlib.Core.List.{_++_}
 use Prim.Native.Nat.{_+_, _-_, _*_, _/_, _<_, _≤_, min}
 use native.Mathlib.Omega.{arith}
 use lib.ListN.{length, take, drop, take-append-drop, length-set}
-use Rattle.cf32.specs.Parts.{bytesOf}
+use Rattle.cf32.specs.Parts.{partBytes}
 use Rattle.cf32.proofs.Parts.{word-turn, left-turn}
 use borrow.Author.Needs.{needs}
 use Rattle.cf32.proofs.encode.Statement.{statement}
@@ -13,7 +13,7 @@ use Rattle.cf32.proofs.encode.Tie as tie
 abbrev Inv-loop : tie.InvT-loop
 Inv-loop parts bytes₀ count n₀ bytes n =
     (n ≤ count) × (count ≡ min (length parts) (length bytes₀ / 4)) × (length bytes ≡ length bytes₀)
-    × (take (4 * n) bytes ≡ bytesOf (take n parts)) × (drop (4 * n) bytes ≡ drop (4 * n) bytes₀)
+    × (take (4 * n) bytes ≡ partBytes (take n parts)) × (drop (4 * n) bytes ≡ drop (4 * n) bytes₀)
 
 abbrev μ-loop : tie.MeasureT-loop
 μ-loop parts bytes₀ count n₀ bytes n = count - n
@@ -22,7 +22,7 @@ least-requires : tie.Need-least-requires Inv-loop μ-loop
 least-requires c κs = search needs
 
 loop-holds : tie.Need-loop-holds Inv-loop μ-loop
-unfolding bytesOf
+unfolding partBytes
 loop-holds c = (search needs, c .least .ensures, refl, refl, refl)
 
 mul-pattern : tie.Need-mul-pattern Inv-loop μ-loop

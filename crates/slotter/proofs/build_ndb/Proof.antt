@@ -4,7 +4,7 @@ use native.Mathlib.Omega.{arith}
 use lib.Dec.{lit≤}
 use lib.ListN.{length}
 use borrow.Author.Needs.{needs}
-use Rattle.slotter.specs.Bursts.{blockRefusal, trainingRefusal, answered, normalBurst, normalCut}
+use Rattle.slotter.specs.Bursts.{blockRefusal, trainingRefusal, burstUnless, normalBurst, normalCut}
 use Rattle.slotter.proofs.Answers.{refuses, accepts}
 use Rattle.slotter.proofs.Fields.{training-length, cut-length, cut}
 use Rattle.slotter.proofs.Refusal.{right-lengths}
@@ -71,7 +71,7 @@ unfolding normalBurst
 returns-2 c =
     let e = c .before .before .before .before .before in
     accepts _ normalCut _ (number (e .before)) (e .if1 .left)
-    (c .joined .ensures ∙ ap (answered 0 normalCut) (cut _ _ _ (c .before .before .before .before .training .ensures) (lengths e .1)))
+    (c .joined .ensures ∙ ap (burstUnless 0 normalCut) (cut _ _ _ (c .before .before .before .before .training .ensures) (lengths e .1)))
 
 pub build-ndb-spec : {M : Type 1} → statement M
 build-ndb-spec =

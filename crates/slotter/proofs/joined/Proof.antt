@@ -3,7 +3,7 @@ use mathlib.Core.Path.{refl, ap, _∙_}
 use native.Mathlib.Omega.{arith}
 use lib.ListN.{replicate}
 use borrow.Author.Needs.{needs}
-use Rattle.slotter.specs.Bursts.{answered}
+use Rattle.slotter.specs.Bursts.{burstUnless}
 use Rattle.slotter.proofs.Fields.{five}
 use Rattle.slotter.proofs.joined.Statement.{statement}
 use Rattle.slotter.proofs.joined.Tie as tie
@@ -40,7 +40,7 @@ returns c =
     let p₃ = c₃ .put3 .ensures in
     let p₄ = c₄ .put4 .ensures in
     c .adjusted .ensures
-    ∙ ap (answered 0 (a .last))
+    ∙ ap (burstUnless 0 (a .last))
     (five (replicate 510 0) (a .a .now) (a .b .now) (a .c .now) (a .d .now) (a .e .now) refl (c₀ .pre .3)
     (p₁ .2) (p₁ .0) (p₂ .2) (p₂ .0) (p₃ .2) (p₃ .0) (p₄ .2) (p₄ .0) (c₅ .put5 .ensures .2))
 

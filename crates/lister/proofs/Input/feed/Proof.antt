@@ -8,12 +8,12 @@ use lib.ListN.{length, drop, drop-of-length-le}
 use lib.Seq.{drop-cons}
 use borrow.Author.Needs.{needs}
 use Rattle.lister.specs.Listing.{listing}
-use Rattle.lister.specs.Inputs.{inputOf}
+use Rattle.lister.specs.Inputs.{inputBytes}
 use Rattle.lister.proofs.Input.feed.Statement.{statement}
 use Rattle.lister.proofs.Input.feed.Tie as tie
 
 abbrev Inv-loop : tie.InvT-loop
-Inv-loop piece input₀ i₀ i-end input i = (i ≤ length piece) × (i-end ≡ length piece) × ((t : List ℕ) → listing (inputOf input ++ (drop i piece ++ t)) ≡ listing (inputOf input₀ ++ (piece ++ t)))
+Inv-loop piece input₀ i₀ i-end input i = (i ≤ length piece) × (i-end ≡ length piece) × ((t : List ℕ) → listing (inputBytes input ++ (drop i piece ++ t)) ≡ listing (inputBytes input₀ ++ (piece ++ t)))
 
 abbrev μ-loop : tie.MeasureT-loop
 μ-loop piece input₀ i₀ i-end input i = length piece - i
@@ -29,7 +29,7 @@ loop-again c =
       search needs,
       λ t.
           c .push .ensures (drop (l .i + 1) s ++ t)
-          ∙ rw (add-one (l .i)) (ap (λ (r : List ℕ). listing (inputOf (l .input) ++ (r ++ t))) (sym (drop-cons s (l .i) 0 (omega arith))))
+          ∙ rw (add-one (l .i)) (ap (λ (r : List ℕ). listing (inputBytes (l .input) ++ (r ++ t))) (sym (drop-cons s (l .i) 0 (omega arith))))
           ∙ l .inv .2 t,
     )
 
@@ -37,7 +37,7 @@ returns : tie.Need-returns Inv-loop μ-loop
 returns c t =
     let l = c .before .loop in
     let s = c .before .before .before .args .piece .now in
-    ap (λ (r : List ℕ). listing (inputOf (l .input) ++ (r ++ t))) (sym (drop-of-length-le s {i = l .i} (omega arith))) ∙ l .inv .2 t
+    ap (λ (r : List ℕ). listing (inputBytes (l .input) ++ (r ++ t))) (sym (drop-of-length-le s {i = l .i} (omega arith))) ∙ l .inv .2 t
 
 pub feed-spec : {M : Type 1} → statement M
 feed-spec =

@@ -2,14 +2,14 @@
 use mathlib.Core.Path.{_∙_}
 use Rattle.text.proofs.Cutting.{short}
 use Rattle.lister.specs.Listing.{listing}
-use Rattle.lister.specs.Inputs.{inputOf}
+use Rattle.lister.specs.Inputs.{inputBytes}
 use Rattle.lister.proofs.Short.{length-listing}
 use borrow.Author.Needs.{needs}
 use Rattle.lister.proofs.Input.listed.Statement.{statement}
 use Rattle.lister.proofs.Input.listed.Tie as tie
 
 returns : tie.Need-returns
-unfolding inputOf
+unfolding inputBytes
 returns c =
     let e = c .listing .ensures in
     let f = c .before in

@@ -4,7 +4,7 @@ use mathlib.Core.Logic.{⊎-elim}
 use native.Mathlib.Omega.{arith}
 use lib.ListN.{length, getD, set, length-set}
 use borrow.Author.Needs.{needs}
-use Rattle.lister.specs.Inputs.{inputOf}
+use Rattle.lister.specs.Inputs.{inputBytes}
 use Rattle.lister.proofs.Pieces.{one-more, last-fine, last-wrong, whole}
 use Rattle.lister.proofs.Input.push.Statement.{statement}
 use Rattle.lister.proofs.Input.push.Tie as tie
@@ -13,13 +13,13 @@ long : (c : tie.Start) → length (c .args .self .bytes) ≡ 465
 long c = search needs
 
 returns : tie.Need-returns
-unfolding inputOf
+unfolding inputBytes
 returns c =
     let a = c .before .before .args in
     one-more (a .self .bytes) (a .self .len) (a .b) (omega (arith, long (c .before .before)))
 
 returns-2 : tie.Need-returns-2
-unfolding inputOf
+unfolding inputBytes
 returns-2 c =
     let n = c .before in
     let c₀ = n .before .before .before in

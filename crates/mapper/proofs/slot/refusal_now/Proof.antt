@@ -1,6 +1,6 @@
 -- `slot::refusal_now` meets its contract: a case for each variant.
 use mathlib.Core.Path.{sym}
-use Rattle.mapper.specs.Due.{refusalOf}
+use Rattle.mapper.specs.Due.{dueRefusal}
 use borrow.Author.Needs.{needs}
 use Rattle.mapper.proofs.slot.refusal_now.Statement.{statement}
 use Rattle.mapper.proofs.slot.refusal_now.Tie as tie
@@ -18,17 +18,17 @@ enum-told-2 : tie.Need-enum-told-2
 enum-told-2 c = search needs
 
 returns : tie.Need-returns
-unfolding refusalOf
+unfolding dueRefusal
 returns c =
     rw (sym (c .before .before .before .due-now .ensures), c .before .due .given .1)
 
 returns-2 : tie.Need-returns-2
-unfolding refusalOf
+unfolding dueRefusal
 returns-2 c =
     rw (sym (c .before .before .due-now .ensures), c .enum-told .given .1)
 
 returns-3 : tie.Need-returns-3
-unfolding refusalOf
+unfolding dueRefusal
 returns-3 c =
     rw (sym (c .before .before .due-now .ensures), c .enum-told2 .given .1)
 

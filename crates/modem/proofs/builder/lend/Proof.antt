@@ -1,7 +1,7 @@
 -- `builder::lend` meets its contract: 510 bytes are filled with a burst, or nothing is stored.
 use mathlib.Core.Path.{_≡_, sym, _∙_}
 use lib.ListN.{length}
-use Rattle.slotter.specs.Bursts.{told}
+use Rattle.slotter.specs.Bursts.{builderReply}
 use Rattle.modem.proofs.Building.{told-bits, bad-room, kept-room, builder's, filled, kept}
 use borrow.Author.Needs.{needs}
 use Rattle.modem.proofs.builder.lend.Statement.{statement}
@@ -14,7 +14,7 @@ returns : tie.Need-returns
 returns c =
     let a = c .before .before .args in
     let n = c .if1 .taken in
-    (bad-room (told (a .burst)) (a .bits .now) n, kept-room (told (a .burst)) (a .bits .now) n)
+    (bad-room (builderReply (a .burst)) (a .bits .now) n, kept-room (builderReply (a .burst)) (a .bits .now) n)
 
 number-requires : tie.Need-number-requires
 number-requires c κs = search needs
@@ -34,7 +34,7 @@ returns-2 : tie.Need-returns-2
 returns-2 c =
     let n = c .before .before .before .before .before .before .before in
     let a = n .before .before .before .args in
-    let b = told (a .burst) in
+    let b = builderReply (a .burst) in
     let e = n .before .if1 .left in
     (builder's b (a .bits .now) e _ (n .number .ensures), c .before .before .copy .ensures ∙ told-bits (a .burst) ∙ filled b (a .bits .now) e _ (n .number .ensures) (c .before .before .before .before .before .before .if2 .taken))
 
@@ -42,7 +42,7 @@ returns-3 : tie.Need-returns-3
 returns-3 c =
     let n = c .before in
     let a = n .before .before .before .args in
-    let b = told (a .burst) in
+    let b = builderReply (a .burst) in
     let e = n .before .if1 .left in
     (builder's b (a .bits .now) e _ (n .number .ensures), kept b (a .bits .now) e _ (n .number .ensures) (c .if2 .left))
 

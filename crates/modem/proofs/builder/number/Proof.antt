@@ -1,5 +1,5 @@
 -- `builder::number` meets its contract, case by case.
-use Rattle.slotter.specs.Bursts.{told}
+use Rattle.slotter.specs.Bursts.{builderReply}
 use borrow.Author.Needs.{needs}
 use Rattle.modem.proofs.builder.number.Statement.{statement}
 use Rattle.modem.proofs.builder.number.Tie as tie
@@ -11,11 +11,11 @@ enum-known-answer : tie.Need-enum-known-answer
 enum-known-answer c = search needs
 
 returns : tie.Need-returns
-unfolding told
+unfolding builderReply
 returns c = search needs
 
 returns-2 : tie.Need-returns-2
-unfolding told
+unfolding builderReply
 returns-2 c = search needs
 
 pub number-spec : {M : Type 1} → statement M

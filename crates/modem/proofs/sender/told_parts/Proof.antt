@@ -1,6 +1,6 @@
 -- `sender::told_parts` meets its contract, case by case.
-use Rattle.modulator.specs.Sender.{told}
-use Rattle.modem.specs.Send.{firstOf, sampleTold}
+use Rattle.modulator.specs.Sender.{senderReply}
+use Rattle.modem.specs.Send.{firstOrSilence, sampleTold}
 use borrow.Author.Needs.{needs}
 use Rattle.modem.proofs.sender.told_parts.Statement.{statement}
 use Rattle.modem.proofs.sender.told_parts.Tie as tie
@@ -12,11 +12,11 @@ enum-known-answer-2 : tie.Need-enum-known-answer-2
 enum-known-answer-2 c = search needs
 
 returns : tie.Need-returns
-unfolding told firstOf sampleTold
+unfolding senderReply firstOrSilence sampleTold
 returns c = (rw (c .before .answer .given .1), rw (c .before .answer .given .1))
 
 returns-2 : tie.Need-returns-2
-unfolding told firstOf sampleTold
+unfolding senderReply firstOrSilence sampleTold
 returns-2 c = (rw (c .before .answer2 .given .1), rw (c .before .answer2 .given .1))
 
 pub told-parts-spec : {M : Type 1} → statement M

@@ -1,6 +1,6 @@
 -- `state::answer_number` meets its contract, case by case.
 use Rattle.slot_receiver.specs.Calls.{replyOf}
-use Rattle.modem.specs.Receive.{refusalOf}
+use Rattle.modem.specs.Receive.{replyNumber}
 use borrow.Author.Needs.{needs}
 use Rattle.modem.proofs.state.answer_number.Statement.{statement}
 use Rattle.modem.proofs.state.answer_number.Tie as tie
@@ -12,11 +12,11 @@ enum-known-answer : tie.Need-enum-known-answer
 enum-known-answer c = search needs
 
 returns : tie.Need-returns
-unfolding refusalOf replyOf
+unfolding replyNumber replyOf
 returns c = search needs
 
 returns-2 : tie.Need-returns-2
-unfolding refusalOf replyOf
+unfolding replyNumber replyOf
 returns-2 c = search needs
 
 pub answer-number-spec : {M : Type 1} → statement M

@@ -1,7 +1,7 @@
 -- `state::take_number` meets its contract, case by case.
 use mathlib.Core.Path.{_≡_}
 use Rattle.slot_receiver.specs.Calls.{takeReplyOf}
-use Rattle.modem.specs.Receive.{refusalOf}
+use Rattle.modem.specs.Receive.{replyNumber}
 use borrow.Author.Needs.{needs}
 use Rattle.modem.proofs.state.take_number.Statement.{statement}
 use Rattle.modem.proofs.state.take_number.Tie as tie
@@ -13,11 +13,11 @@ enum-known-answer : tie.Need-enum-known-answer
 enum-known-answer c = search needs
 
 returns : tie.Need-returns
-unfolding refusalOf takeReplyOf
+unfolding replyNumber takeReplyOf
 returns c = search needs
 
 returns-2 : tie.Need-returns-2
-unfolding refusalOf takeReplyOf
+unfolding replyNumber takeReplyOf
 returns-2 c = search needs
 
 pub take-number-spec : {M : Type 1} → statement M

@@ -1,7 +1,7 @@
 -- `state::take_slot` meets its contract, case by case.
 use mathlib.Core.Path.{_≡_}
 use Rattle.slot_receiver.specs.Calls.{takeReplyOf}
-use Rattle.modem.specs.Receive.{slotOf}
+use Rattle.modem.specs.Receive.{slotTaken}
 use borrow.Author.Needs.{needs}
 use Rattle.modem.proofs.state.take_slot.Statement.{statement}
 use Rattle.modem.proofs.state.take_slot.Tie as tie
@@ -16,11 +16,11 @@ no-slot-requires : tie.Need-no-slot-requires
 no-slot-requires c κs = tt
 
 returns : tie.Need-returns
-unfolding slotOf takeReplyOf
+unfolding slotTaken takeReplyOf
 returns c = search needs
 
 returns-2 : tie.Need-returns-2
-unfolding slotOf takeReplyOf
+unfolding slotTaken takeReplyOf
 returns-2 c = search needs
 
 pub take-slot-spec : {M : Type 1} → statement M

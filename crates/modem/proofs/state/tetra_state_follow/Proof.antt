@@ -2,7 +2,7 @@
 use mathlib.Core.Path.{ap, sym, _∙_}
 use mathlib.Core.List.{[]}
 use Rattle.receiver.specs.View.{receiverOf}
-use Rattle.modem.specs.Receive.{refusalOf}
+use Rattle.modem.specs.Receive.{replyNumber}
 use Rattle.modem.proofs.Receiving.{by-refusal, followed-on}
 use Rattle.modem.proofs.state.tetra_state_follow.Statement.{statement}
 use Rattle.modem.proofs.state.tetra_state_follow.Tie as tie
@@ -19,7 +19,7 @@ returns c =
     let a = c .before .before .before .args in
     let n = c .answer-number .ensures in
     let e = f .ensures in (
-      λ re im abs re₂ im₂ abs₂. n ∙ ap refusalOf (e .0 re im abs re₂ im₂ abs₂),
+      λ re im abs re₂ im₂ abs₂. n ∙ ap replyNumber (e .0 re im abs re₂ im₂ abs₂),
       (
         e .1 .0,
         (

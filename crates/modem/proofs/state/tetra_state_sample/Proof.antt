@@ -6,7 +6,7 @@ use mir.ValLaws.{toZ-ofZ}
 use Rattle.dsp_types.specs.declared.ComplexSample.{ComplexSample}
 use Rattle.slot_receiver.specs.Calls.{sampleOutcome}
 use Rattle.receiver.specs.View.{receiverOf}
-use Rattle.modem.specs.Receive.{refusalOf}
+use Rattle.modem.specs.Receive.{replyNumber}
 use Rattle.modem.proofs.Receiving.{by-refusal}
 use Rattle.modem.proofs.state.tetra_state_sample.Statement.{statement}
 use Rattle.modem.proofs.state.tetra_state_sample.Tie as tie
@@ -25,7 +25,7 @@ returns c =
     let r = receiverOf (a .state) (a .past-re .now) (a .past-im .now) (a .past-abs .now) in
     let e = toZ-ofZ w64 _ (s .fits .counter) in
     let x : ComplexSample = record { re = a .re; im = a .im } in (
-      c .answer-number .ensures ∙ ap refusalOf (d .ensures .0 ∙ ap (λ (z : ℤ). sampleOutcome r x z .reply) e),
+      c .answer-number .ensures ∙ ap replyNumber (d .ensures .0 ∙ ap (λ (z : ℤ). sampleOutcome r x z .reply) e),
       (d .ensures .1 .0 ∙ ap (λ (z : ℤ). sampleOutcome r x z .receiver) e, λ h. by-refusal (d .result .answer) (λ z. h (c .answer-number .ensures ∙ z)) (d .ensures .1 .1)),
     )
 

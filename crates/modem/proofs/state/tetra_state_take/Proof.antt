@@ -1,6 +1,6 @@
 -- `state::tetra_state_take` meets its contract, by `State::take_demodulated_slot`.
 use mathlib.Core.Path.{ap, _∙_}
-use Rattle.modem.specs.Receive.{refusalOf, slotOf}
+use Rattle.modem.specs.Receive.{replyNumber, slotTaken}
 use Rattle.modem.proofs.Receiving.{by-take-refusal}
 use borrow.Author.Needs.{needs}
 use Rattle.modem.proofs.state.tetra_state_take.Statement.{statement}
@@ -29,9 +29,9 @@ returns c =
     let n = c .before in
     let t = n .before .before .before .before .before .before .before .before .take-demodulated-slot in
     let e = t .ensures in (
-      λ re im abs. n .take-number .ensures ∙ ap refusalOf (e .0 re im abs),
+      λ re im abs. n .take-number .ensures ∙ ap replyNumber (e .0 re im abs),
       (
-        λ re im abs. c .take-slot .ensures ∙ ap slotOf (e .0 re im abs),
+        λ re im abs. c .take-slot .ensures ∙ ap slotTaken (e .0 re im abs),
         (e .1 .0, (e .1 .1 .0, λ h. by-take-refusal (t .result .answer) (λ z. h (n .take-number .ensures ∙ z)) (e .1 .1 .1))),
       ),
     )

@@ -9,7 +9,7 @@ use mir.Syntax.{w64}
 use mir.Val.{SFits}
 use mir.ValLaws.{toZ-ofZ}
 use Rattle.dsp_types.specs.Refusals.{lastCounter, counters}
-use Rattle.mapper.specs.Due.{startOf, inputRefusal, dueOf, refusalOf}
+use Rattle.mapper.specs.Due.{startOf, inputRefusal, dueOf, dueRefusal}
 use Rattle.modulator.specs.Sender.{senderOf}
 use Rattle.modulator.specs.Blocks.{dueAfter, blockCall, placeDue, fedBlock, leftOf}
 use Rattle.mapper.proofs.Places.{accepted-count}
@@ -29,7 +29,7 @@ module _ (c : tie.After-unsigned) where
   room : 0 < length (c .before .before .before .before .before .before .args .out .now) / 2
   room = some-room (c .before .before .before .refusal-now .result) _ (c .before .before .if1 .left)
 
-  unrefused : let a = c .before .before .before .before .before .before .args in refusalOf (dueOf (a .sample-counter .0) (a .slot .0) (a .has-bits) (a .bits .now)) ≡ 0
+  unrefused : let a = c .before .before .before .before .before .before .args in dueRefusal (dueOf (a .sample-counter .0) (a .slot .0) (a .has-bits) (a .bits .now)) ≡ 0
   unrefused =
       let a = c .before .before .before .before .before .before .args in
       sym (c .before .before .before .refusal-now .ensures) ∙ no-refusal _ (length (a .out .now) / 2) (c .before .before .if1 .left)
@@ -50,7 +50,7 @@ module _ (c : tie.After-unsigned) where
   left : 0 < leftOf (c .unsigned .result) (startOf (c .before .before .before .before .before .before .args .slot .0))
   left =
       let a = c .before .before .before .before .before .before .args in
-      some-left (c .unsigned .result) (a .slot .0) (a .has-bits) (a .bits .now) accepted small (ap (λ (z : ℤ). refusalOf (dueOf z (a .slot .0) (a .has-bits) (a .bits .now))) (sym first-is) ∙ unrefused)
+      some-left (c .unsigned .result) (a .slot .0) (a .has-bits) (a .bits .now) accepted small (ap (λ (z : ℤ). dueRefusal (dueOf z (a .slot .0) (a .has-bits) (a .bits .now))) (sym first-is) ∙ unrefused)
 
 refusal-now-requires : tie.Need-refusal-now-requires
 refusal-now-requires c κs = search needs

@@ -1,5 +1,5 @@
 -- `Modulator::shape` meets its contract.
-use Rattle.modulator.specs.Sender.{told, shapedOf}
+use Rattle.modulator.specs.Sender.{senderReply, shapedOf}
 use borrow.Author.Needs.{needs}
 use Rattle.modulator.proofs.sender.Modulator.shape.Statement.{statement}
 use Rattle.modulator.proofs.sender.Modulator.shape.Tie as tie
@@ -8,7 +8,7 @@ sample-requires : tie.Need-sample-requires
 sample-requires c κs = search needs
 
 returns : tie.Need-returns
-unfolding told shapedOf
+unfolding senderReply shapedOf
 returns c =
     let s = c .before .before .sample in (rw (s .ensures .0), s .ensures .1)
 

@@ -1,6 +1,6 @@
 -- `Modulator::transmit` meets its contract: a case for each variant.
 use mathlib.Core.Path.{refl, sym, _∙_}
-use Rattle.modulator.specs.Sender.{told, toldOf, nextLine}
+use Rattle.modulator.specs.Sender.{senderReply, toldOf, nextLine}
 use Rattle.modulator.proofs.Steps.{silence-sends, symbol-sends}
 use borrow.Author.Needs.{needs}
 use Rattle.modulator.proofs.sender.Modulator.transmit.Statement.{statement}
@@ -22,7 +22,7 @@ shape-requires-2 : tie.Need-shape-requires-2
 shape-requires-2 c κs = search needs
 
 returns : tie.Need-returns
-unfolding told toldOf nextLine
+unfolding senderReply toldOf nextLine
 returns c =
     (rw (c .before .due .given .1), rw (c .before .due .given .1), λ n e. refl)
 
