@@ -22,7 +22,7 @@ use Rattle.account.specs.CallList.{Call, sample, follow, outcome, after,
 use Rattle.account.specs.Rules.{Account}
 use Rattle.account.specs.Tracked.{Tracked, signalHeard, tracked, turn, account}
 use Rattle.account.specs.Account
-use Rattle.account.specs.Account.{Waiting, nothing, waits, changed, lastHanded, newer, sized, seenIf, seen, answered, toldTake, modeOf, accountOf, heard, ifAccepted, nextCounter, Counted, expected, expectedAll}
+use Rattle.account.specs.Account.{Waiting, nothing, waits, changed, lastHanded, newer, sized, seenIf, seen, answered, toldTake, lockedMode, accountOf, heard, ifAccepted, nextCounter, Counted, expected, expectedAll}
 use Rattle.account.proofs.Times.{none-missing}
 use Rattle.account.proofs.Simulation.{Timed, searching, fresh, steady, Waits, Stepped, stepped, over}
 use Rattle.account.proofs.Bounds.{Within, Accepted, accepted-at, valid-count, valid-same, slot-same, sample-within, taken-within, new-within}
@@ -62,8 +62,8 @@ sample-accepts r x c n w e p q =
     let v = valid-count r w in
     record { after = rw (v, e, m, q); windows = rw (v, e, m, q); answer = rw (v, e) }
 
-follow-refused : (r other : Receiver) (b : Bool) → r .mode ≡ modeOf b → Leaves r (follow other) r [] (refused 13)
-unfolding outcome followOutcome followRefusal unless modeOf
+follow-refused : (r other : Receiver) (b : Bool) → r .mode ≡ lockedMode b → Leaves r (follow other) r [] (refused 13)
+unfolding outcome followOutcome followRefusal unless lockedMode
 follow-refused r other true e = record { after = rw e; windows = rw e; answer = rw e }
 follow-refused r other false e = record { after = rw e; windows = rw e; answer = rw e }
 
@@ -128,8 +128,8 @@ agree-new = record {
 }
 
 -- the mode is the account's
-pub mode-is : (m : Mode) (c : Clock) (l : Lock) (n : ℕ) (t : Tracked) → Timed m c l n t → m ≡ modeOf (t .account .locked)
-unfolding modeOf
+pub mode-is : (m : Mode) (c : Clock) (l : Lock) (n : ℕ) (t : Tracked) → Timed m c l n t → m ≡ lockedMode (t .account .locked)
+unfolding lockedMode
 mode-is m c l n t (searching s) = s .mode ∙ rw (s .unlocked)
 mode-is m c l n t (fresh k s) = k .mode ∙ rw (k .locked)
 mode-is m c l n t (steady k s) = k .mode ∙ rw (k .locked)

@@ -168,7 +168,7 @@ on-bounded r k few b at =
     }
 
 advanced-bounded : (r : Receiver) (k : ℕ) → r .mode ≡ Dl → k < counters → Bounded r k → Bounded (advanced r) (suc k)
-unfolding R.nextSlot R.tracked addSlots withClock withLock
+unfolding R.nextSlot R.track addSlots withClock withLock
 advanced-bounded r k m few b =
     let e : Float = r .lock .timingError in
     let z : ℤ = r .clock .referenceTime +ℤ movedOf e in

@@ -148,7 +148,7 @@ record Next (r r′ : Receiver) : Type 0 where
   slot : r′ .slot ≡ r .slot
 
 next : (m : Mode) (r : Receiver) → r .clock .currentSlot < slots → Next r (R.schedule m r)
-unfolding R.schedule R.searchOn R.nextSlot R.tracked R.addSlots R.setSlot withClock withLock
+unfolding R.schedule R.searchOn R.nextSlot R.track R.addSlots R.setSlot withClock withLock
 next Idle r few = record { current = few; slot = refl }
 next DlUnsynchronized r few = record { current = few; slot = refl }
 next Dl r few = record { current = slot-below _; slot = refl }

@@ -183,11 +183,11 @@ gap-span e = elim (moved-law e) [ inl p ↦ rw p (omega arith) | inr o ↦ elim 
 
 -- a receiver after its slot's window: the next slot, with the reference time moved
 abbrev pub advanced : Receiver → Receiver
-advanced r = R.nextSlot (R.tracked r)
+advanced r = R.nextSlot (R.track r)
 
 -- an error within both tests moves nothing
-settled-stays : (r : Receiver) → late (r .lock .timingError) ≡ false → early (r .lock .timingError) ≡ false → R.tracked r ≡ r
-unfolding R.tracked movedOf settledOf loweredOf withClock withLock
+settled-stays : (r : Receiver) → late (r .lock .timingError) ≡ false → early (r .lock .timingError) ≡ false → R.track r ≡ r
+unfolding R.track movedOf settledOf loweredOf withClock withLock
 settled-stays r a b = rw (a, b, +ℤ-idr (r .clock .referenceTime))
 
 -- ---- a window closes, in its four ways
@@ -400,7 +400,7 @@ module _ (r : Receiver) (x : ComplexSample) (n : ℕ) (t : Tracked) (v : valid r
   -- a locked window, the lock kept
   slot-kept : Locked (r .mode) (r .lock) t → Steady (r .clock) n t → Whole (r .slot) → n < counters → eqb n (t .account .due) ≡ true
       → leb 100 (nextMisses (typeOf (windowBits s′)) (r .lock .misses)) ≡ false → Steps
-  unfolding listen withSignal R.nextSlot R.tracked addSlots withClock withLock handed-over R.handOver withWaits withSlot withMode over slotTurn nextNumber setSlot R.slotReadyFromBegin
+  unfolding listen withSignal R.nextSlot R.track addSlots withClock withLock handed-over R.handOver withWaits withSlot withMode over slotTurn nextNumber setSlot R.slotReadyFromBegin
   slot-kept l s u few e f =
       let eq : n ≡ t .account .due = eqb-true n (t .account .due) e in
       let z : ℤ = r .clock .slotReadyTime in

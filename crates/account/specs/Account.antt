@@ -234,9 +234,9 @@ Reported (follow other ∷ cs) = Unit {0}
 -- ════ DEMAND 3, of the moment after the calls cs
 
 -- in search or locked, as a mode
-unfoldable pub modeOf : (locked : Bool) → Mode
-modeOf false = DlUnsynchronized
-modeOf true = Dl
+unfoldable pub lockedMode : (locked : Bool) → Mode
+lockedMode false = DlUnsynchronized
+lockedMode true = Dl
 
 -- one field for each sentence
 pub record Demand3 (cs : List Call) : Type 0 where
@@ -244,7 +244,7 @@ pub record Demand3 (cs : List Call) : Type 0 where
   pub rules : Told (heard cs)
   -- "The receiver closes these windows and no others, and after the list it searches or is locked as the account is."
   pub closes : closed cs ≡ accountOf cs .windows
-  pub mode : after cs .mode ≡ modeOf (accountOf cs .locked)
+  pub mode : after cs .mode ≡ lockedMode (accountOf cs .locked)
   -- "its takes answer as 01's account of it tells", and so do the other calls; the lent slices after them
   pub answered : answers cs ≡ expectedAll cs
   pub fills : lentAfter cs ≡ expectedLent cs

@@ -25,7 +25,7 @@ use Rattle.slot_bits.proofs.Laws.{length-bits}
 use Rattle.listener.specs.Signal.{Signal, timingOf, bitsOf, windowBits}
 use Rattle.slot_receiver.specs.declared.Mode.{Mode}
 use Rattle.slot_receiver.specs.declared.Mode.the-variants.{Idle, DlUnsynchronized, Dl, Ul}
-use Rattle.slot_receiver.specs.Receiver.{Clock, Receiver, withMode, withClock, withLock, withWaits, withSlot, setSlot, addSlots, slotReadyFromBegin, foundTime, found, notFoundYet, searchWindow, handOver, downlinkWindow, processPastSamples, tracked, processed, tdiff, far, slotsToSkip, skipIf, skipped}
+use Rattle.slot_receiver.specs.Receiver.{Clock, Receiver, withMode, withClock, withLock, withWaits, withSlot, setSlot, addSlots, slotReadyFromBegin, foundTime, found, notFoundYet, searchWindow, handOver, downlinkWindow, processPastSamples, track, processed, tdiff, far, slotsToSkip, skipIf, skipped}
 use Rattle.slot_receiver.specs.Bounds.{Within, Timed, Closing, Scheduled, Counter}
 use Rattle.slot_receiver.proofs.Signed.{wider, within-pos, within-sum, within-difference, ready-within, eqZ-true, counter-37}
 
@@ -76,8 +76,8 @@ pub record Tracked (k : Clock) : Type 0 where
   pub reference : Within (2 ^ 40) (k .referenceTime)
   pub current : k .currentSlot < slots
 
-pub tracked-near : (r : Receiver) → Scheduled (r .clock) → Tracked (tracked r .clock)
-unfolding tracked withClock withLock
+pub tracked-near : (r : Receiver) → Scheduled (r .clock) → Tracked (track r .clock)
+unfolding track withClock withLock
 tracked-near r h =
     let z = r .clock .referenceTime in
     let e = movedOf (r .lock .timingError) in

@@ -23,7 +23,7 @@ use Rattle.listener.proofs.Reading.{read-bits}
 use Rattle.rx_slot.specs.Views.{BurstView, checked}
 use Rattle.slot_receiver.specs.declared.Mode.{Mode}
 use Rattle.slot_receiver.specs.declared.Mode.the-variants.{Idle, DlUnsynchronized, Dl, Ul}
-use Rattle.slot_receiver.specs.Receiver.{Lock, Receiver, withMode, withClock, withLock, withSlot, setSlot, emptied, found, notFoundYet, searchWindow, handOver, lockAfter, modeAfter, downlinkSlot, downlinkWindow, uplinkSlot, processPastSamples, tracked, searchOn, schedule}
+use Rattle.slot_receiver.specs.Receiver.{Lock, Receiver, withMode, withClock, withLock, withSlot, setSlot, emptied, found, notFoundYet, searchWindow, handOver, lockAfter, modeAfter, downlinkSlot, downlinkWindow, uplinkSlot, processPastSamples, track, searchOn, schedule}
 use Rattle.slot_receiver.specs.View.{modeOf, modeNumber}
 use Rattle.slot_receiver.proofs.Times.{found-reference, sync-placed}
 
@@ -139,12 +139,12 @@ module _ (r : Receiver) where
 
   -- ... and after the second
   pub shifted-sooner : (z : ℤ) → early (loweredOf (r .lock .timingError)) ≡ true → z ≡ r .clock .referenceTime +ℤ cond (late (r .lock .timingError)) (pos 1) (pos 0) -ℤ pos 1
-      → shifted z (add binary32 (loweredOf (r .lock .timingError)) oneF) ≡ tracked r
-  unfolding tracked settledOf movedOf
+      → shifted z (add binary32 (loweredOf (r .lock .timingError)) oneF) ≡ track r
+  unfolding track settledOf movedOf
   shifted-sooner z t e = rw (t, e, +ℤ-assoc (r .clock .referenceTime) (cond (late (r .lock .timingError)) (pos 1) (pos 0)) (negsuc 0))
 
-  pub not-sooner : early (loweredOf (r .lock .timingError)) ≡ false → lowered ≡ tracked r
-  unfolding tracked settledOf movedOf
+  pub not-sooner : early (loweredOf (r .lock .timingError)) ≡ false → lowered ≡ track r
+  unfolding track settledOf movedOf
   not-sooner t = rw (t, +ℤ-idr (cond (late (r .lock .timingError)) (pos 1) (pos 0)))
 
 -- ---- the next search window

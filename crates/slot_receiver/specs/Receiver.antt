@@ -171,8 +171,8 @@ processPastSamples Ul r = handOver r (uplinkSlot (r .clock .currentSlot) (r .sig
 -- ---- slot timing after a window
 
 -- tracking: an averaged error above 0.5 makes the reference time one sample later, one below −0.5 one sample sooner
-unfoldable pub tracked : Receiver → Receiver
-tracked r =
+unfoldable pub track : Receiver → Receiver
+track r =
     withLock
     (withClock r
     (record {
@@ -192,7 +192,7 @@ nextSlot r = withClock r (addSlots (r .mode) (r .clock) (pos 1))
 unfoldable pub schedule : Mode → Receiver → Receiver
 schedule Idle r = r
 schedule DlUnsynchronized r = withClock r (searchOn (r .clock))
-schedule Dl r = nextSlot (tracked r)
+schedule Dl r = nextSlot (track r)
 schedule Ul r = nextSlot r
 
 unfoldable pub processed : Receiver → Receiver

@@ -19,7 +19,7 @@ ghost use Rattle.dsp_types.specs.declared.ComplexSample.{ComplexSample};
 ghost use Rattle.timing.specs.Tracking.{averagedOf};
 ghost use Rattle.listener.specs.Signal.{Signal};
 ghost use Rattle.listener.specs.View.{signalFrom};
-ghost use Rattle.slot_receiver.specs.Receiver.{withSlot, emptied, processPastSamples, processed, tracked, schedule, closeWindow};
+ghost use Rattle.slot_receiver.specs.Receiver.{withSlot, emptied, processPastSamples, processed, track, schedule, closeWindow};
 ghost use Rattle.slot_receiver.specs.View.{modeOf, clockOf, receiverFrom};
 ghost use Rattle.slot_receiver.specs.Bounds.{Within, Closing, Scheduled};
 
@@ -188,7 +188,7 @@ impl SlotReceiver {
     // Timing that seems off by more than half a sample moves the reference time.
     fn track(self) -> SlotReceiver
         requires { ⌜ Scheduled (clockOf self) ⌝ }
-        ensures { λ r. ⌜ ((next : ℤ) (s : Signal) → receiverFrom r next s ≡ tracked (receiverFrom self next s)) ⌝ }
+        ensures { λ r. ⌜ ((next : ℤ) (s : Signal) → receiverFrom r next s ≡ track (receiverFrom self next s)) ⌝ }
     {
         let mut d = self;
         if 0.5 < d.averaged_timing_error {
