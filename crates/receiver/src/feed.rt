@@ -1,10 +1,10 @@
 // A block of samples in one call.
 use crate::State;
-use crate::refuse::is_beyond;
 use dsp_types::ACCEPTED;
 use dsp_types::ComplexSample;
 use dsp_types::SampleCount;
 use dsp_types::least;
+use sample_refusal::is_beyond;
 ghost use mathlib.Core.Path.{_≡_};
 ghost use mathlib.Core.Bool.{false};
 ghost use mathlib.Core.List.{_++_};

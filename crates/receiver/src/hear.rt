@@ -1,9 +1,9 @@
 // One sample is judged and, if it is not refused, heard, with zeros before it for those that are missing.
 use crate::State;
-use crate::refuse::sample_refusal;
 use dsp_types::ACCEPTED;
 use dsp_types::ComplexSample;
 use dsp_types::SampleCount;
+use sample_refusal::sample_refusal;
 use slot_receiver::valid_count;
 ghost use mathlib.Core.Path.{_≡_};
 ghost use mathlib.Core.Bool.{false};

@@ -2,7 +2,6 @@
 mod calls;
 mod feed;
 mod hear;
-mod refuse;
 mod sample;
 
 pub use calls::StateTaken;

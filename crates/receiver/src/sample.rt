@@ -1,11 +1,11 @@
 // A new receiver, and samples one by one.
 use crate::State;
 use crate::hear::Judged;
-use crate::refuse::is_beyond;
 use dsp_types::ACCEPTED;
 use dsp_types::ComplexSample;
 use dsp_types::SampleCount;
 use listener::Listener;
+use sample_refusal::is_beyond;
 use slot_receiver::Answer;
 use slot_receiver::Mode;
 use slot_receiver::SlotReceiver;

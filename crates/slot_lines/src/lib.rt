@@ -2,6 +2,5 @@
 mod line;
 mod listen;
 
-pub use line::slot_line;
 pub use listen::Heard;
 pub use listen::hear;

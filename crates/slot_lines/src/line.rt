@@ -16,7 +16,13 @@ fn with_bits(text: Text, has_bits: bool, bits: &[u8]) -> Text
 }
 
 // A slot's number, its burst's type, wrong training bits and bits.
-pub fn slot_line(number: u32, train_type: u8, errors: usize, has_bits: bool, bits: &[u8]) -> Text
+pub(crate) fn slot_line(
+    number: u32,
+    train_type: u8,
+    errors: usize,
+    has_bits: bool,
+    bits: &[u8],
+) -> Text
     ensures { λ r. ⌜ textOf r ≡ cut (slotLine number «train_type» errors «has_bits» (now (bits .entry))) ⌝ }
 {
     let numbered = Text::new()

@@ -1,15 +1,15 @@
--- `refuse::sample_refusal` meets its contract: the tests in the order of the numbers.
+-- `sample_refusal` meets its contract: the tests in the order of the numbers.
 use mathlib.Core.Path.{_≡_, sym, _∙_}
 use mathlib.Core.Bool.{_||_}
 use Rattle.dsp_types.proofs.Laws.{out-of-count}
 use Rattle.dsp_types.specs.Refusals.{beyond, outOfCount}
 use Rattle.slot_receiver.specs.Calls.{sampleRefusal}
 use borrow.Author.Needs.{needs}
-use Rattle.receiver.proofs.refuse.sample_refusal.Statement.{statement}
-use Rattle.receiver.proofs.refuse.sample_refusal.Tie as tie
-use Rattle.receiver.proofs.refuse.sample_refusal.Reads as reads
-use Rattle.receiver.proofs.refuse.sample_refusal.Lts as lts
-use Rattle.receiver.proofs.refuse.is_beyond.Reads as is-beyond-reads
+use Rattle.sample_refusal.proofs.sample_refusal.Statement.{statement}
+use Rattle.sample_refusal.proofs.sample_refusal.Tie as tie
+use Rattle.sample_refusal.proofs.sample_refusal.Reads as reads
+use Rattle.sample_refusal.proofs.sample_refusal.Lts as lts
+use Rattle.sample_refusal.proofs.is_beyond.Reads as is-beyond-reads
 use Rattle.dsp_types.proofs.SampleCount.is_before.Reads as is-before-reads
 
 beyonds : (c : tie.After-is-beyond2) → (c .before .is-beyond .result || c .is-beyond2 .result) ≡ (beyond (c .before .before .args .input .re) || beyond (c .before .before .args .input .im))

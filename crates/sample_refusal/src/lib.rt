@@ -11,14 +11,14 @@ ghost use Rattle.dsp_types.specs.Refusals.{beyond};
 ghost use Rattle.slot_receiver.specs.Calls.{sampleRefusal};
 
 // NaN is neither at least −1,024 nor at most 1,024.
-pub(crate) fn is_beyond(part: f32) -> bool
+pub fn is_beyond(part: f32) -> bool
     ensures { λ r. ⌜ r ≡ beyond part ⌝ }
 {
     !((-1024.0 <= part) & (part <= 1024.0))
 }
 
 // 0, or the refusal of a sample, where next is the counter after the last accepted one.
-pub(crate) fn sample_refusal(next: SampleCount, input: ComplexSample, counter: SampleCount) -> u32
+pub fn sample_refusal(next: SampleCount, input: ComplexSample, counter: SampleCount) -> u32
     ensures { λ r. ⌜ r ≡ sampleRefusal (next .0) input (counter .0) ⌝ }
 {
     if is_beyond(input.re) | is_beyond(input.im) {
