@@ -23,29 +23,29 @@ length-signed (negsuc n) = omega (arith, length-decimal 20 (suc n))
 length-two : (f : ℕ) (bits : List ℕ) → length (map characterOf (slice f (f + 2) bits)) ≤ 2
 length-two f bits = simp (length-map, length-drop, length-take) (omega arith)
 
-length-refusal : (n : ℕ) → length (refusalLine n) ≤ 1024
+length-refusal : (n : ℕ) → length (refusalLine n) ≤ 2048
 unfolding refusalLine ascii
 length-refusal n = simp length-append (omega (arith, length-decimal 20 n))
 
-length-burst : (type : ℕ) (first last : ℤ) (bits : List ℕ) → length (burstLines type first last bits) ≤ 1024
+length-burst : (type : ℕ) (first last : ℤ) (bits : List ℕ) → length (burstLines type first last bits) ≤ 2048
 unfolding burstLines ascii
 length-burst type first last bits =
     simp length-append
     (omega (arith, length-name type, length-signed first, length-two 12 bits, length-signed last, length-two 498 bits))
 
-length-answer : (type : ℕ) (told : BuilderReply) → length (listedAnswer type told) ≤ 1024
+length-answer : (type : ℕ) (told : BuilderReply) → length (listedAnswer type told) ≤ 2048
 unfolding listedAnswer
 length-answer type told = go (told .number) (told .sums) (told .bits)
   where
-    go : (n : ℕ) (sums : List ℤ) (bits : List ℕ) → length (listedAnswer type (record { number = n; sums = sums; bits = bits })) ≤ 1024
+    go : (n : ℕ) (sums : List ℤ) (bits : List ℕ) → length (listedAnswer type (record { number = n; sums = sums; bits = bits })) ≤ 2048
     go n [] bits = length-refusal n
     go n (first ∷ rest) bits = length-burst type first (getD rest 0 (pos 0)) bits
 
-pub length-listing : (input : List ℕ) → length (listing input) ≤ 1024
+pub length-listing : (input : List ℕ) → length (listing input) ≤ 2048
 unfolding listing listed
 length-listing input = go (trimmed 10 input)
   where
-    go : (l : List ℕ) → length (listed l) ≤ 1024
+    go : (l : List ℕ) → length (listed l) ≤ 2048
     go [] = length-refusal 3
     go (letter ∷ characters) = length-answer (letterType letter) (answerOf (letterType letter) characters)
 

@@ -1,4 +1,4 @@
--- A text with bytes behind it, cut to 1,024. Assumes nothing.
+-- A text with bytes behind it, cut to 2,048. Assumes nothing.
 use mathlib.Core.Path.{_≡_, sym, ap, _∙_}
 use mathlib.Core.Logic.{⊎-elim}
 use mathlib.Core.List.{List, [], _∷_, _++_, map}
@@ -18,7 +18,7 @@ take-least l n =
     (λ (h : n < length l). let e : min (length l) n ≡ n = omega arith in rw e)
     (le-or-lt (length l) n)
 
-module _ (bytes s : List ℕ) (n len count : ℕ) (h : length bytes ≡ 1024) (l : len ≡ min n 1024) (c : count ≡ min (length s) (1024 - len)) where
+module _ (bytes s : List ℕ) (n len count : ℕ) (h : length bytes ≡ 2048) (l : len ≡ min n 2048) (c : count ≡ min (length s) (2048 - len)) where
   held : take len bytes ≡ take n bytes
   held =
       let e : len ≡ min (length bytes) n = omega arith in
@@ -28,28 +28,28 @@ module _ (bytes s : List ℕ) (n len count : ℕ) (h : length bytes ≡ 1024) (l
   unfolding cut
   appended w e =
       let k : length (take len bytes) ≡ len = length-take-le len bytes (omega arith) in
-      let m : 1024 ≡ length (take len bytes) + (1024 - len) = omega (arith, k) in
+      let m : 2048 ≡ length (take len bytes) + (2048 - len) = omega (arith, k) in
       ap (take (len + count)) e
       ∙ take-paste bytes len s count (omega arith) (omega arith)
-      ∙ rw (← held, c, take-least s (1024 - len)) (sym (ap (λ (x : ℕ). take x (take len bytes ++ s)) m ∙ take-append-add (take len bytes) s (1024 - len)))
+      ∙ rw (← held, c, take-least s (2048 - len)) (sym (ap (λ (x : ℕ). take x (take len bytes ++ s)) m ∙ take-append-add (take len bytes) s (2048 - len)))
 
-pub counted : (w : List ℕ) (n : ℕ) → length w ≡ 1024 → n ≤ 1024 → n ≡ length (take n w)
+pub counted : (w : List ℕ) (n : ℕ) → length w ≡ 2048 → n ≤ 2048 → n ≡ length (take n w)
 counted w n h l = sym (length-take-le n w (omega arith))
 
 -- bytes that are cut off need not be there
-pub cut-least : (t s : List ℕ) (n : ℕ) → n ≡ min (length s) 1024 → cut (t ++ take n s) ≡ cut (t ++ s)
+pub cut-least : (t s : List ℕ) (n : ℕ) → n ≡ min (length s) 2048 → cut (t ++ take n s) ≡ cut (t ++ s)
 unfolding cut
 cut-least t s n e =
-    rw (e, take-least s 1024)
+    rw (e, take-least s 2048)
     (⊎-elim
-    (λ (h : length t ≤ 1024). seam (take 1024 s) h ∙ ap (λ (r : List ℕ). t ++ r) (take-take (1024 - length t) 1024 s (omega arith)) ∙ sym (seam s h))
-    (λ (h : 1024 < length t). take-append-le 1024 t (take 1024 s) (omega arith) ∙ sym (take-append-le 1024 t s (omega arith)))
-    (le-or-lt (length t) 1024))
+    (λ (h : length t ≤ 2048). seam (take 2048 s) h ∙ ap (λ (r : List ℕ). t ++ r) (take-take (2048 - length t) 2048 s (omega arith)) ∙ sym (seam s h))
+    (λ (h : 2048 < length t). take-append-le 2048 t (take 2048 s) (omega arith) ∙ sym (take-append-le 2048 t s (omega arith)))
+    (le-or-lt (length t) 2048))
   where
-    seam : (r : List ℕ) → length t ≤ 1024 → take 1024 (t ++ r) ≡ t ++ take (1024 - length t) r
+    seam : (r : List ℕ) → length t ≤ 2048 → take 2048 (t ++ r) ≡ t ++ take (2048 - length t) r
     seam r h =
-        let m : 1024 ≡ length t + (1024 - length t) = omega arith in
-        ap (λ (x : ℕ). take x (t ++ r)) m ∙ take-append-add t r (1024 - length t)
+        let m : 2048 ≡ length t + (2048 - length t) = omega arith in
+        ap (λ (x : ℕ). take x (t ++ r)) m ∙ take-append-add t r (2048 - length t)
 
 -- a character more
 pub character-turn : (bits w : List ℕ) (i x : ℕ) → i < length bits → i < length w → x ≡ characterOf (getD bits i 0) → take i w ≡ take i (map characterOf bits)

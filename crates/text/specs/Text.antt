@@ -40,7 +40,7 @@ textOf t = take (t .len) (t .bytes)
 
 -- what a text holds of bytes
 unfoldable pub cut : List ℕ → List ℕ
-cut bytes = take 1024 bytes
+cut bytes = take 2048 bytes
 
 -- bytes without one closing byte c
 unfoldable pub trimmed : ℕ → List ℕ → List ℕ

@@ -1,4 +1,4 @@
-// A line of text, made piece by piece: at most 1,024 bytes, what is behind them is cut off.
+// A line of text, made piece by piece: at most 2,048 bytes, what is behind them is cut off.
 use dsp_types::least;
 ghost use mathlib.Core.Path.{_≡_};
 ghost use mathlib.Core.List.{[], _++_, map};
@@ -6,9 +6,9 @@ ghost use Prim.Native.Nat.{_≤_};
 ghost use lib.ListN.{length, take};
 ghost use Rattle.text.specs.Text.{textOf, cut, decimal, characterOf, typeName, trimmed};
 
-// The first len of the bytes; a larger len counts as 1,024.
+// The first len of the bytes; a larger len counts as 2,048.
 pub struct Text {
-    pub bytes: [u8; 1024],
+    pub bytes: [u8; 2048],
     pub len: usize,
 }
 
@@ -51,7 +51,7 @@ impl Text {
         ensures { λ r. ⌜ r .len ≡ 0 ⌝ }
     {
         Text {
-            bytes: [0; 1024],
+            bytes: [0; 2048],
             len: 0,
         }
     }
@@ -59,11 +59,11 @@ impl Text {
     // With the bytes s behind it.
     pub fn append(self, s: &[u8]) -> Text
         ensures { λ r. ⌜ textOf r ≡ cut (textOf self ++ now (s .entry)) ⌝ }
-        ensures { λ r. ⌜ (r .len ≤ 1024) × (r .len ≡ length (textOf r)) ⌝ }
+        ensures { λ r. ⌜ (r .len ≤ 2048) × (r .len ≡ length (textOf r)) ⌝ }
     {
         let mut bytes = self.bytes;
-        let len = least(self.len, 1024);
-        let count = least(s.len(), 1024 - len);
+        let len = least(self.len, 2048);
+        let count = least(s.len(), 2048 - len);
         for i in 0..count {
             bytes[len + i] = s[i];
         }
@@ -76,7 +76,7 @@ impl Text {
     // With a number in decimal behind it.
     pub fn decimal(self, n: u64) -> Text
         ensures { λ r. ⌜ textOf r ≡ cut (textOf self ++ decimal 20 n) ⌝ }
-        ensures { λ r. ⌜ (r .len ≤ 1024) × (r .len ≡ length (textOf r)) ⌝ }
+        ensures { λ r. ⌜ (r .len ≤ 2048) × (r .len ≡ length (textOf r)) ⌝ }
     {
         let mut digits = [0u8; 20];
         let k = io::decimal(n, &mut digits);
@@ -86,10 +86,10 @@ impl Text {
     // With the characters of bits behind it.
     pub fn bits(self, bits: &[u8]) -> Text
         ensures { λ r. ⌜ textOf r ≡ cut (textOf self ++ map characterOf (now (bits .entry))) ⌝ }
-        ensures { λ r. ⌜ (r .len ≤ 1024) × (r .len ≡ length (textOf r)) ⌝ }
+        ensures { λ r. ⌜ (r .len ≤ 2048) × (r .len ≡ length (textOf r)) ⌝ }
     {
-        let mut characters = [0u8; 1024];
-        let count = least(bits.len(), 1024);
+        let mut characters = [0u8; 2048];
+        let count = least(bits.len(), 2048);
         for i in 0..count {
             characters[i] = character_of(bits[i]);
         }
@@ -99,7 +99,7 @@ impl Text {
     // With a burst type's name behind it.
     pub fn type_name(self, kind: u32) -> Text
         ensures { λ r. ⌜ textOf r ≡ cut (textOf self ++ typeName kind) ⌝ }
-        ensures { λ r. ⌜ (r .len ≤ 1024) × (r .len ≡ length (textOf r)) ⌝ }
+        ensures { λ r. ⌜ (r .len ≤ 2048) × (r .len ≡ length (textOf r)) ⌝ }
     {
         match kind {
             1 => self.append(b"normal1"),
@@ -111,9 +111,9 @@ impl Text {
     }
 
     fn length(self) -> usize
-        ensures { λ r. ⌜ (r ≤ 1024) × (r ≡ length (textOf self)) ⌝ }
+        ensures { λ r. ⌜ (r ≤ 2048) × (r ≡ length (textOf self)) ⌝ }
     {
-        least(self.len, 1024)
+        least(self.len, 2048)
     }
 
     // Writes it to a file descriptor, and answers as io::write_all does.

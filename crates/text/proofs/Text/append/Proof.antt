@@ -12,7 +12,7 @@ use Rattle.text.proofs.Text.append.Statement.{statement}
 use Rattle.text.proofs.Text.append.Tie as tie
 
 abbrev Inv-loop : tie.InvT-loop
-Inv-loop s bytes₀ len count i₀ bytes i = (i ≤ count) × (count ≡ min (length s) (1024 - len)) × (len ≤ 1024) × (length bytes₀ ≡ 1024) × (bytes ≡ paste bytes₀ len s i)
+Inv-loop s bytes₀ len count i₀ bytes i = (i ≤ count) × (count ≡ min (length s) (2048 - len)) × (len ≤ 2048) × (length bytes₀ ≡ 2048) × (bytes ≡ paste bytes₀ len s i)
 
 abbrev μ-loop : tie.MeasureT-loop
 μ-loop s bytes₀ len count i₀ bytes i = count - i
@@ -70,7 +70,7 @@ returns c =
     let e : l .i ≡ count .result = omega arith in
     let w : l .bytes ≡ paste (a .self .bytes) (len .result) (a .s .now) (count .result) = rw e at (l .inv .4) in
     let k = length-paste (a .self .bytes) (len .result) (a .s .now) (count .result) (omega arith) (omega arith) in
-    let n : length (l .bytes) ≡ 1024 = ap length w ∙ k ∙ l .inv .3 in
+    let n : length (l .bytes) ≡ 2048 = ap length w ∙ k ∙ l .inv .3 in
     (appended (a .self .bytes) (a .s .now) (a .self .len) (len .result) (count .result) (l .inv .3) (len .ensures) (count .ensures) (l .bytes) w, (omega arith, counted (l .bytes) (len .result + count .result) n (omega arith)))
 
 pub append-spec : {M : Type 1} → statement M

@@ -13,7 +13,7 @@ use Rattle.text.proofs.Text.bits.Tie as tie
 
 abbrev Inv-loop : tie.InvT-loop
 Inv-loop self bits characters₀ count i₀ characters i =
-    (i ≤ count) × (count ≡ min (length bits) 1024) × (length characters ≡ 1024) × (take i characters ≡ take i (map characterOf bits))
+    (i ≤ count) × (count ≡ min (length bits) 2048) × (length characters ≡ 2048) × (take i characters ≡ take i (map characterOf bits))
 
 abbrev μ-loop : tie.MeasureT-loop
 μ-loop self bits characters₀ count i₀ characters i = count - i

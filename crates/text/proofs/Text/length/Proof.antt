@@ -14,7 +14,7 @@ returns : tie.Need-returns
 unfolding textOf
 returns c =
     let a = c .before .args in
-    let h : length (a .self .bytes) ≡ 1024 = search needs in
+    let h : length (a .self .bytes) ≡ 2048 = search needs in
     (omega (arith, c .least .ensures), omega (arith, c .least .ensures, length-take (a .self .len) (a .self .bytes), h))
 
 pub length-spec : {M : Type 1} → statement M

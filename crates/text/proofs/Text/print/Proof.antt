@@ -10,7 +10,7 @@ use Rattle.text.proofs.Text.print.Tie as tie
 
 room : (c : tie.After-length) → c .length .result ≤ length (c .before .before .args .self .bytes)
 room c =
-    let h : length (c .before .before .args .self .bytes) ≡ 1024 = search needs in
+    let h : length (c .before .before .args .self .bytes) ≡ 2048 = search needs in
     omega (arith, c .length .ensures, h)
 
 length-requires : tie.Need-length-requires
