@@ -1,23 +1,19 @@
 /* The C interface of the TETRA slot modem, for x86-64. Link libmodem.a, which needs nothing else but memcpy and memset.
  *
- * Raw samples in (f32 re and im in turn, 72,000 a second), a line for each slot out:
+ * Raw samples in (f32 re and im in turn, 72,000 a second), the number of each slot out:
  *
  *     #include <stdio.h>
  *     #include <tetra_modem.h>
- *
- *     int main(void)
- *     {
+ *     int main(void) {
  *         static struct tetra_receiver receiver;
- *         uint8_t bits[510], half1[254], half2[254];
- *         float sample[2];
- *
+ *         uint8_t bits[510], half1[254], half2[254]; float sample[2];
  *         tetra_receiver_init(&receiver, TETRA_MODE_DL_SEARCHING);
  *         for (int64_t counter = 0; fread(sample, sizeof sample, 1, stdin) == 1; counter++)
- *             if (tetra_feed(&receiver, sample, 1, counter).slot) {
- *                 struct tetra_slot slot = tetra_take(&receiver, bits, 510, half1, 254, half2, 254).slot;
- *                 printf("slot=%u type=%u errors=%zu\n", slot.time, slot.full.train_type, slot.full.train_errs);
- *             }
+ *             if (tetra_feed(&receiver, sample, 1, counter).slot)
+ *                 printf("slot=%u\n", tetra_take(&receiver, bits, 510, half1, 254, half2, 254).slot.time);
  *     }
+ *
+ * Beside the number stand the burst's type and errors (slot.full.train_type, slot.full.train_errs); `bits` has its bits.
  *
  * Receivers, senders, burst builders and the call logger's call follow, each in a group of its own; examples/gateway.c uses
  * them all.
