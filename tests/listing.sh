@@ -1,5 +1,5 @@
 #!/bin/sh
-# Tests the listing program, whose path is the one argument, against the examples and the refusals of docs 01, "Checked figures".
+# Tests the listing program, whose path is the one argument, against the examples and the refusals of document 01, "Checked figures".
 set -u
 program=$1
 work=$(mktemp -d) || exit 1
