@@ -1,61 +1,66 @@
--- `slot_lines::hear` meets its contract: by why the feed took no more samples.
-use Prim.Native.Nat.{_/_, _^_, _<_}
+-- `listen::hear` meets its contract: by whether the sample behind a row is refused.
+use Prim.Native.Nat.{_-_, _/_, _<_, _^_}
+use mathlib.Core.Path.{_≡_, ap, _∙_}
 use native.Mathlib.Omega.{arith}
+use lib.IntN.{ℤ, pos, _+ℤ_}
 use lib.ListN.{length}
-use Rattle.slot_lines.specs.Blocks.{stepMade}
-use Rattle.slot_lines.proofs.Steps.{hears, at-end, at-refused, at-slot, fed-within}
+use mir.Syntax.{w64}
+use mir.Val.{toZ}
+use mir.ValLaws.{toZ-pos}
+use Rattle.dsp_types.specs.Times.{fitted}
+use Rattle.receiver.specs.Feed.{interleaved}
+use Rattle.slot_lines.specs.Blocks.{Step, stepMade}
+use Rattle.slot_lines.proofs.Steps.{not-mended, is-mended, row-within, hears}
 use borrow.Author.Needs.{needs}
 use Rattle.slot_lines.proofs.listen.hear.Statement.{statement}
 use Rattle.slot_lines.proofs.listen.hear.Tie as tie
 
-long : (c : tie.After-shared-slice-known) → length (c .before .args .samples .now) / 2 < 2 ^ 63
-long c = search needs
-
-add-t19 : tie.Need-add-t19
-add-t19 c =
-    let f = c .before .before .before .before in
-    let s = f .before .before .before .before in
-    record { fits = omega (arith, fed-within _ (s .before .args .samples .now) _ (f .feed .ensures .0), long s) }
+-- the row is within the samples, of which there are few enough
+few : (c : tie.After-hear-row) → c .hear-row .result .taken < 2 ^ 63 - 1
+unfolding stepMade
+few c =
+    let s = c .before .before .before .before in
+    let a = s .before .args in
+    let k : length (a .samples .now) / 2 < 2 ^ 63 - 1 = search needs in
+    let h = row-within (a .style) _ (a .samples .now) (a .first .0) (c .hear-row .ensures) in
+    omega arith
 
 returns : tie.Need-returns
 unfolding stepMade
 returns c =
-    let f = c .before .before .before .before in
-    let a = f .before .before .before .before .before .args in
-    let e = f .feed .ensures in
-    hears (a .has-bits) _ (a .samples .now) (a .first .0) (at-end (a .has-bits) _ _ _ (e .0) (e .1 .1 .0) (e .1 .0) (c .before .enum-told .given .1) (c .new .ensures .0))
+    let h = c .before .before in
+    let a = h .before .before .before .before .before .args in
+    hears (a .style) _ (a .samples .now) (a .first .0) (not-mended (a .style) _ _ _ (h .hear-row .ensures) (c .if1 .taken))
+
+cast-plus : tie.Need-cast-plus
+cast-plus c = record { sfits = omega (arith, few (c .before .before .before)) }
+
+add-t26 : tie.Need-add-t26
+add-t26 c =
+    let if1 = c .before .before .before .before .before .before .before .before .before in
+    record { fits = omega (arith, few (if1 .before .before)) }
 
 returns-2 : tie.Need-returns-2
-unfolding stepMade
+unfolding stepMade interleaved
 returns-2 c =
-    let f = c .before .before .before .before in
-    let a = f .before .before .before .before .before .args in
-    let e = f .feed .ensures in
-    let t = c .take-line .ensures in
-    hears (a .has-bits) _ (a .samples .now) (a .first .0)
-    (at-slot (a .has-bits) _ _ _ (e .0) (e .1 .1 .0) (e .1 .0) (c .before .enum-told2 .given .1) (t .0 .0) (t .0 .1) (t .1 .0 _ _ _) (t .1 .1 _ _ _))
-
-returns-3 : tie.Need-returns-3
-unfolding stepMade
-returns-3 c =
-    let s = c .before .before in
-    let f = s .before .before .before in
-    let a = f .before .before .before .before .before .args in
-    let e = f .feed .ensures in
-    hears (a .has-bits) _ (a .samples .now) (a .first .0) (at-refused (a .has-bits) _ _ _ (e .0) (e .1 .1 .0) _ (e .1 .0) (s .stop .given .1) (c .new2 .ensures .0))
+    let z = c .before .before in
+    let p = z .before .before .before .before .before in
+    let if1 = p .before .before in
+    let h = if1 .before .before in
+    let a = h .before .before .before .before .before .args in
+    let n = h .hear-row .result .taken in
+    let d : p .plus .result .0 ≡ fitted (a .first .0 +ℤ pos n) = p .plus .ensures ∙ ap (λ (m : ℤ). fitted (a .first .0 +ℤ m)) (toZ-pos w64 n (omega (arith, few h))) in
+    hears (a .style) _ (a .samples .now) (a .first .0) (is-mended (a .style) _ _ _ (h .hear-row .ensures) (if1 .if1 .left) d (z .hear-row2 .ensures))
 
 pub hear-spec : {M : Type 1} → statement M
 hear-spec =
     tie.close
     (tie.spec
     (λ c κs. search needs)
-    (λ c. search needs)
-    (λ c κs. search needs)
-    (λ c. search needs)
-    (λ c κs. search needs)
-    (λ c. search needs)
-    add-t19
-    (λ c κs. search needs)
     returns
-    returns-2
-    returns-3)
+    cast-plus
+    (λ c κs. search needs)
+    (λ c. search needs)
+    (λ c κs. search needs)
+    add-t26
+    returns-2)
