@@ -15,21 +15,25 @@ returns c =
     let a = f₀ .before .before .before in
     let t = a .before .before .before .before .before .before in
     let s = t .before .before .before .before .args in
-    let e = t .take-demodulated-slot .ensures in
-    ((refl, (refl, refl)),
-    (λ re im abs.
-    slot-told (s .style) (s .state) re im abs _ _ _ _ _ (e .0 re im abs) (e .1 .1 .0 re im abs) (a .answer .given .1)
-    (rw (f₀ .front .ensures, f₁ .front2 .ensures, f₂ .front3 .ensures) at (c .slot-line .ensures)),
-    e .1 .0))
+    let e = t .take-demodulated-slot .ensures in (
+      (refl, (refl, refl)),
+      (
+        λ re im abs.
+            slot-told (s .style) (s .state) re im abs _ _ _ _ _ (e .0 re im abs) (e .1 .1 .0 re im abs) (a .answer .given .1)
+            (rw (f₀ .front .ensures, f₁ .front2 .ensures, f₂ .front3 .ensures) at (c .slot-line .ensures)),
+        e .1 .0,
+      ),
+    )
 
 returns-2 : tie.Need-returns-2
 unfolding takeNext
 returns-2 c =
     let t = c .before .before .before .before .before .before .before in
     let s = t .before .before .before .before .args in
-    let e = t .take-demodulated-slot .ensures in
-    ((refl, (refl, refl)),
-    (λ re im abs. nothing-told (s .style) (s .state) re im abs _ _ (e .0 re im abs) (c .before .enum-told .given .1) (c .new .ensures .0), e .1 .0))
+    let e = t .take-demodulated-slot .ensures in (
+      (refl, (refl, refl)),
+      (λ re im abs. nothing-told (s .style) (s .state) re im abs _ _ (e .0 re im abs) (c .before .enum-told .given .1) (c .new .ensures .0), e .1 .0),
+    )
 
 pub take-line-spec : {M : Type 1} → statement M
 take-line-spec =
