@@ -4,7 +4,8 @@
 # make uninstall   takes away what make install put there
 # make test        every proof, every must-fail edit, every program and test; the gate
 # make compare     the same calls through this library and through the original Rust, answers compared
-# make bench       nanoseconds of every stage, beside the original Rust, from one driver in one run
+# make bench       nanoseconds of every stage, beside the original Rust and liquid-dsp, from one driver in one run
+# make limits      the receiver's limits, measured with liquid-dsp as the sender: tables, and the plots of docs/RADIO.md
 PREFIX = /usr/local
 DESTDIR =
 VERSION = 0.1.0
@@ -15,7 +16,10 @@ INCLUDE = $(DESTDIR)$(PREFIX)/include
 LIB = $(DESTDIR)$(PREFIX)/lib
 MAN = $(DESTDIR)$(PREFIX)/share/man/man1
 
-.PHONY: demo build install uninstall test compare bench
+# gcc names a library that it finds by its path.
+BENCHED = bench $(if $(filter /%,$(shell gcc -print-file-name=libliquid.so)),liquid)
+
+.PHONY: demo build install uninstall test compare bench limits
 
 demo:
 	@scripts/prove tetra_tx tetra_rx >&2
@@ -46,4 +50,7 @@ compare:
 bench:
 	@scripts/prove libbench_signal.a libmodem.a
 	@BENCH_LIBRARIES=$(CURDIR)/target/staticlib cargo run --quiet --offline --profile timed \
-		--features bench --bin bench --manifest-path compare/Cargo.toml --target-dir compare/target
+		--features "$(BENCHED)" --bin bench --manifest-path compare/Cargo.toml --target-dir compare/target
+
+limits:
+	@tests/limits/run

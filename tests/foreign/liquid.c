@@ -1,7 +1,6 @@
-/* Sends bursts with another maker's modulator: liquid-dsp's differential PSK, of whose eight phase steps pi/4-DQPSK uses the
- * odd ones, and its root-raised-cosine filter of roll-off 0.35. Lines of bursts in, as tetra_tx takes them, and raw samples
- * out, half as strong as ours, 150 Hz off, 0.3 of a sample late and with noise. Only the 510 bits of a burst are made with
- * our builders. */
+/* Sends bursts with another maker's modulator: liquid-dsp's own pi/4-DQPSK (1.5 has it, in Debian 12) and its
+ * root-raised-cosine filter of roll-off 0.35. Lines of bursts in, as tetra_tx takes them, and raw samples out, half as strong
+ * as ours, 150 Hz off, 0.3 of a sample late and with noise. Only the 510 bits of a burst are made with our builders. */
 #include <complex.h>
 #include <liquid/liquid.h>
 #include <math.h>
@@ -19,21 +18,8 @@
 #define TURN (2.0 * M_PI * 150.0 / 72000.0)
 
 static firinterp_crcf filter;
-static modem dpsk;
-static unsigned int symbol_of[8]; /* the modem's symbol for each step of phase, in eighths of a turn */
+static modem pi4dqpsk;
 static unsigned long counter;
-
-/* The modem's own bits are Gray coded: which symbol turns by how much is asked of it. */
-static void learn(void)
-{
-    for (unsigned int symbol = 0; symbol < 8; symbol++) {
-        float complex before, after;
-
-        modem_modulate(dpsk, 0, &before);
-        modem_modulate(dpsk, symbol, &after);
-        symbol_of[(int)lroundf(cargf(after * conjf(before)) / (float)M_PI_4 + 8.0f) % 8] = symbol;
-    }
-}
 
 static void send(float complex symbol)
 {
@@ -48,14 +34,13 @@ static void send(float complex symbol)
     }
 }
 
-/* EN 300 392-2: 00 +1, 01 +3, 10 -1, 11 -3 eighths of a turn. */
+/* liquid-dsp's symbols turn as EN 300 392-2 has it: 00 +1, 01 +3, 10 -1, 11 -3 eighths of a turn. */
 static void send_burst(const uint8_t *bits)
 {
-    static const unsigned int turns[4] = {1, 3, 7, 5};
     float complex symbol;
 
     for (int i = 0; i < SYMBOLS; i++) {
-        modem_modulate(dpsk, symbol_of[turns[2 * bits[2 * i] + bits[2 * i + 1]]], &symbol);
+        modem_modulate(pi4dqpsk, 2u * bits[2 * i] + bits[2 * i + 1], &symbol);
         send(symbol);
     }
 }
@@ -72,8 +57,7 @@ int main(void)
     uint8_t in[480], bits[TETRA_SLOT_BITS];
 
     filter = firinterp_crcf_create_prototype(LIQUID_FIRFILT_RRC, PER_SYMBOL, DELAY, 0.35f, LATE);
-    dpsk = modem_create(LIQUID_MODEM_DPSK8);
-    learn();
+    pi4dqpsk = modem_create(LIQUID_MODEM_PI4DQPSK);
     while (fgets(line, sizeof line, stdin) != NULL) {
         char *text = strchr(line, ' ');
         uint32_t refusal = TETRA_BAD_LENGTH;
@@ -101,6 +85,6 @@ int main(void)
     }
     send_silence(SYMBOLS);
     firinterp_crcf_destroy(filter);
-    modem_destroy(dpsk);
+    modem_destroy(pi4dqpsk);
     return 0;
 }

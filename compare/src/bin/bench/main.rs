@@ -1,7 +1,9 @@
 //! Times this library and the original from one driver, in turn, and prints them side by side. What they answer must be
-//! equal; the original is as published, without document 01's stand-ins.
+//! equal; the original is as published, without document 01's stand-ins. liquid-dsp is timed too where it is installed.
 
 mod modem;
+#[cfg(feature = "liquid")]
+mod peers;
 mod signal;
 
 use std::time::Duration;
@@ -19,4 +21,8 @@ fn main() {
     println!("{:<54} {:>8} {:>8}", "", "ns", "ratio");
     signal::bench();
     modem::bench();
+    #[cfg(feature = "liquid")]
+    peers::bench();
+    #[cfg(not(feature = "liquid"))]
+    println!("liquid-dsp: left out, it is not installed");
 }

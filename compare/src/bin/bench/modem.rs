@@ -13,10 +13,10 @@ use std::hint::black_box;
 use std::time::{Duration, Instant};
 
 const SLOTS: usize = 1000;
-const SLOT: usize = 1020;
+pub const SLOT: usize = 1020;
 const SAMPLES: usize = SLOTS * SLOT;
-/// Single calls of the receiver copy its state: fewer samples will do.
-const FEW: usize = 20 * SLOT;
+/// Single calls of the receiver copy its state, and liquid-dsp takes its time: fewer samples will do.
+pub const FEW: usize = 20 * SLOT;
 const CARRIERS: usize = 8;
 const RUNS: usize = 5;
 
@@ -128,10 +128,10 @@ impl Receiver {
 
 /// What is logged of a slot: its number, its type, and the bits of its burst.
 #[derive(PartialEq)]
-struct Slot(u32, u8, Vec<u8>);
+pub struct Slot(pub u32, pub u8, pub Vec<u8>);
 
 /// The best times of N competitors, which run in turn. Each gives what must be equal.
-fn best<const N: usize, T: PartialEq>(mut run: impl FnMut(usize) -> T) -> [Duration; N] {
+pub fn best<const N: usize, T: PartialEq>(mut run: impl FnMut(usize) -> T) -> [Duration; N] {
     let mut times = [Duration::MAX; N];
     for _ in 0..RUNS {
         let mut first = None;
@@ -149,7 +149,7 @@ fn best<const N: usize, T: PartialEq>(mut run: impl FnMut(usize) -> T) -> [Durat
 }
 
 /// Samples, re and im in turn: a carrier with noise, and noise alone.
-fn downlink() -> Vec<f32> {
+pub fn downlink() -> Vec<f32> {
     let mut random = Random::new(7);
     let mut channel = Channel::new(Carrier::new(&mut random, downlink_burst), 1.0);
     channel.noise = 0.1;
@@ -214,7 +214,7 @@ fn original_receives(air: &[f32], carriers: usize) -> Vec<Slot> {
     slots
 }
 
-fn receives_from_c(air: &[f32], carriers: usize) -> Vec<Slot> {
+pub fn receives_from_c(air: &[f32], carriers: usize) -> Vec<Slot> {
     let mut slots = Vec::new();
     let mut receivers = vec![Receiver::new(); carriers];
     for (n, block) in air.chunks(2 * SLOT).enumerate() {

@@ -12,7 +12,7 @@ use std::ops::Range;
 use std::time::{Duration, Instant};
 
 /// A thousand slots, ten at a time: a run so short is seldom interrupted, and the best of a few is not.
-const SAMPLES: usize = 1_020_000;
+pub const SAMPLES: usize = 1_020_000;
 const PIECE: usize = 10_200;
 const RUNS: usize = 7;
 
@@ -33,13 +33,13 @@ mod library {
 
 /// Samples as two slices of parts.
 #[derive(Clone)]
-struct Parts {
-    re: Vec<f32>,
-    im: Vec<f32>,
+pub struct Parts {
+    pub re: Vec<f32>,
+    pub im: Vec<f32>,
 }
 
 impl Parts {
-    fn zeros() -> Self {
+    pub fn zeros() -> Self {
         Self {
             re: vec![0.0; SAMPLES],
             im: vec![0.0; SAMPLES],
@@ -48,7 +48,7 @@ impl Parts {
 }
 
 /// A downlink that the original's modulator sends, with noise.
-fn input() -> Parts {
+pub fn input() -> Parts {
     let mut random = Random::new(1);
     let mut channel = Channel::new(Carrier::new(&mut random, downlink_burst), 1.0);
     channel.noise = 0.1;
@@ -78,7 +78,7 @@ fn single(re: &[f32], im: &[f32], out_re: &mut [f32], out_im: &mut [f32]) {
     filter(library::bench_filter_single, re, im, out_re, out_im);
 }
 
-fn block(re: &[f32], im: &[f32], out_re: &mut [f32], out_im: &mut [f32]) {
+pub fn block(re: &[f32], im: &[f32], out_re: &mut [f32], out_im: &mut [f32]) {
     filter(library::bench_filter_block, re, im, out_re, out_im);
 }
 
@@ -115,7 +115,7 @@ fn magnitude(re: &[f32], im: &[f32], out: &mut [f32]) {
 }
 
 /// The times of N competitors over all pieces, of each piece the best. `run` takes a competitor and a piece.
-fn times<const N: usize>(mut run: impl FnMut(usize, Range<usize>)) -> [Duration; N] {
+pub fn times<const N: usize>(mut run: impl FnMut(usize, Range<usize>)) -> [Duration; N] {
     let mut total = [Duration::ZERO; N];
     for start in (0..SAMPLES).step_by(PIECE) {
         let mut best = [Duration::MAX; N];
