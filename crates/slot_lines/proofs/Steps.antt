@@ -65,10 +65,10 @@ lost r x c n e = go (beyond (x .re) || beyond (x .im)) e
 
 -- ---- the first sample of a step
 
-counts : (c : ℤ) (n : ℕ) → (c +ℤ pos 1) +ℤ pos n ≡ c +ℤ pos (suc n)
+pub counts : (c : ℤ) (n : ℕ) → (c +ℤ pos 1) +ℤ pos n ≡ c +ℤ pos (suc n)
 counts c n = same ((c +ℤ pos 1) +ℤ pos n) (c +ℤ pos (suc n)) (omega (arith, sum (c +ℤ pos 1) (pos n), sum c (pos 1), sum c (pos (suc n))))
 
-counts-none : (c : ℤ) → c +ℤ pos 0 ≡ c
+pub counts-none : (c : ℤ) → c +ℤ pos 0 ≡ c
 counts-none c = same (c +ℤ pos 0) c (omega (arith, sum c (pos 0)))
 
 -- so many of n samples are done with: not more than there are, and one at least
@@ -161,7 +161,7 @@ module _ (style : Style) where
       go (on after h s) others = rw (h, s, ← counts c (stepOf style after xs (c +ℤ pos 1) .taken)) (others after)
       go (ends n s) others = rw s
 
-  step-goes : (r : Receiver) (xs : List ComplexSample) (c : ℤ) → Goes (stepOf style r xs c .taken) (length xs)
+  pub step-goes : (r : Receiver) (xs : List ComplexSample) (c : ℤ) → Goes (stepOf style r xs c .taken) (length xs)
   unfolding stepOf stretchOf stretchBy mendedBy feedOf
   step-goes r [] c = (omega arith, λ p. p)
   step-goes r (x ∷ xs) c = go (first r x xs c) (λ after. step-goes after xs (c +ℤ pos 1))
@@ -172,7 +172,7 @@ module _ (style : Style) where
 
 -- ---- parts as samples, and counters that 64 bits hold
 
-samples-count : (parts : List Float) → length (interleaved parts) ≡ length parts / 2
+pub samples-count : (parts : List Float) → length (interleaved parts) ≡ length parts / 2
 unfolding interleaved
 samples-count [] = refl
 samples-count (x ∷ []) = refl

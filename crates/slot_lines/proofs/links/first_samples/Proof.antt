@@ -1,25 +1,27 @@
+-- `links::first_samples` meets its contract.
+use Prim.Native.Nat.{_*_}
+use native.Mathlib.Omega.{arith}
+use lib.ListN.{length-take}
+use Rattle.slot_lines.proofs.Both.{first-few}
 use borrow.Author.Needs.{needs}
 use Rattle.slot_lines.proofs.links.first_samples.Statement.{statement}
 use Rattle.slot_lines.proofs.links.first_samples.Tie as tie
-use Rattle.slot_lines.proofs.links.first_samples.Reads as reads
-use Rattle.slot_lines.proofs.links.first_samples.Lts as lts
-use Rattle.dsp_types.proofs.least.Reads as least-reads
 
--- src/links.rt:42:9
-least-requires : tie.Need-least-requires
-least-requires c κs = search needs
-
--- src/links.rt:43:16
-mul-result : tie.Need-mul-result
-mul-result c = search needs
-
--- src/links.rt:43:5
 slice-aggregate-result : tie.Need-slice-aggregate-result
-slice-aggregate-result c = ?
+slice-aggregate-result c =
+    let a = c .before .before .before .args in
+    omega (arith, length-take (2 * c .before .least .result) (a .samples .now), c .before .least .ensures)
 
--- src/links.rt:39:1
 returns : tie.Need-returns
-returns c = ?
+returns c =
+    let a = c .before .before .before .args in
+    first-few (a .n) (a .samples .now) (c .before .least .ensures)
 
 pub first-samples-spec : {M : Type 1} → statement M
-first-samples-spec = tie.close (tie.spec least-requires mul-result slice-aggregate-result returns)
+first-samples-spec =
+    tie.close
+    (tie.spec
+    (λ c κs. search needs)
+    (λ c. search needs)
+    slice-aggregate-result
+    returns)

@@ -1,26 +1,30 @@
+-- `links::hear_links` meets its contract: by whether the uplink is behind.
+use mathlib.Core.Path.{_∙_}
+use Rattle.slot_lines.specs.Links.{bothOf, bothMade}
+use Rattle.slot_lines.proofs.Both.{both-hears, leads, catches-up}
 use borrow.Author.Needs.{needs}
 use Rattle.slot_lines.proofs.links.hear_links.Statement.{statement}
 use Rattle.slot_lines.proofs.links.hear_links.Tie as tie
-use Rattle.slot_lines.proofs.links.hear_links.Reads as reads
-use Rattle.slot_lines.proofs.links.hear_links.Lts as lts
-use Rattle.slot_lines.proofs.links.Links.catch_up.Reads as catch-up-reads
-use Rattle.slot_lines.proofs.links.Links.lead.Reads as lead-reads
 
--- src/links.rt:151:9
-lead-requires : tie.Need-lead-requires
-lead-requires c κs = search needs
-
--- src/links.rt:153:9
-catch-up-requires : tie.Need-catch-up-requires
-catch-up-requires c κs = search needs
-
--- src/links.rt:133:1
 returns : tie.Need-returns
-returns c = ?
+unfolding bothOf bothMade
+returns c =
+    let if1 = c .before .before .before .before in
+    let a = if1 .before .before .before .before .args in
+    both-hears (a .form) (a .has-bits) _ _ _ _ (c .lead .ensures _ _ _ ∙ leads (a .form) (a .has-bits) _ _ _ _ (if1 .if1 .taken))
 
--- src/links.rt:133:1
 returns-2 : tie.Need-returns-2
-returns-2 c = ?
+unfolding bothOf bothMade
+returns-2 c =
+    let if1 = c .before .before .before .before in
+    let a = if1 .before .before .before .before .args in
+    both-hears (a .form) (a .has-bits) _ _ _ _ (c .catch-up .ensures _ _ _ ∙ catches-up (a .form) (a .has-bits) _ _ _ _ (if1 .if1 .left))
 
 pub hear-links-spec : {M : Type 1} → statement M
-hear-links-spec = tie.close (tie.spec lead-requires catch-up-requires returns returns-2)
+hear-links-spec =
+    tie.close
+    (tie.spec
+    (λ c κs. search needs)
+    (λ c κs. search needs)
+    returns
+    returns-2)

@@ -1,26 +1,31 @@
+-- `Links::catch_up` meets its contract.
+use Rattle.slot_lines.specs.Blocks.{stepMade}
+use Rattle.slot_lines.specs.Links.{upStyle, bothOf, bothMade}
+use Rattle.slot_lines.proofs.Both.{caught-made, few-taken}
 use borrow.Author.Needs.{needs}
 use Rattle.slot_lines.proofs.links.Links.catch_up.Statement.{statement}
 use Rattle.slot_lines.proofs.links.Links.catch_up.Tie as tie
-use Rattle.slot_lines.proofs.links.Links.catch_up.Reads as reads
-use Rattle.slot_lines.proofs.links.Links.catch_up.Lts as lts
-use Rattle.slot_lines.proofs.links.first_samples.Reads as first-samples-reads
-use Rattle.slot_lines.proofs.listen.hear.Reads as hear-reads
 
--- src/links.rt:115:13
-first-samples-requires : tie.Need-first-samples-requires
-first-samples-requires c κs = search needs
-
--- src/links.rt:116:13
-hear-requires : tie.Need-hear-requires
-hear-requires c κs = search needs
-
--- src/links.rt:121:24
 sub-links : tie.Need-sub-links
-sub-links c = ?
+sub-links c =
+    let h = c .before .before .before .before in
+    let f = h .before .before .before .before in
+    let a = f .before .before .args in
+    few-taken (a .self .behind) (a .samples .now) _ (f .first-samples .ensures) (h .hear .ensures .1 .1 .0)
 
--- src/links.rt:98:5
 returns : tie.Need-returns
-returns c = ?
+unfolding stepMade upStyle bothOf bothMade
+returns c =
+    let h = c .before .before .before .before in
+    let f = h .before .before .before .before in
+    let a = f .before .before .args in
+    λ downRe downIm downAbs. caught-made (a .form) (a .has-bits) _ _ _ (f .first-samples .ensures) (h .hear .ensures .0)
 
 pub catch-up-spec : {M : Type 1} → statement M
-catch-up-spec = tie.close (tie.spec first-samples-requires hear-requires sub-links returns)
+catch-up-spec =
+    tie.close
+    (tie.spec
+    (λ c κs. search needs)
+    (λ c κs. search needs)
+    sub-links
+    returns)
