@@ -1,14 +1,14 @@
--- `cf32::encode` meets its contract. The loop's invariant: so many parts are written, and the rest of the buffer is as it was.
+-- `iq_format::encode` meets its contract. The loop's invariant: so many parts are written, and the rest of the buffer is as it was.
 use mathlib.Core.Path.{_≡_, refl, sym, _∙_}
 use mathlib.Core.List.{_++_}
 use Prim.Native.Nat.{_+_, _-_, _*_, _/_, _<_, _≤_, min}
 use native.Mathlib.Omega.{arith}
 use lib.ListN.{length, take, drop, take-append-drop, length-set}
-use Rattle.cf32.specs.Parts.{partBytes}
-use Rattle.cf32.proofs.Parts.{word-turn, left-turn}
+use Rattle.iq_format.specs.Parts.{partBytes}
+use Rattle.iq_format.proofs.Parts.{word-turn, left-turn}
 use borrow.Author.Needs.{needs}
-use Rattle.cf32.proofs.encode.Statement.{statement}
-use Rattle.cf32.proofs.encode.Tie as tie
+use Rattle.iq_format.proofs.encode.Statement.{statement}
+use Rattle.iq_format.proofs.encode.Tie as tie
 
 abbrev Inv-loop : tie.InvT-loop
 Inv-loop parts bytes₀ count n₀ bytes n =

@@ -1,11 +1,11 @@
--- `cf32::float` meets its contract: a pattern above that of infinity, without its sign, is NaN's, and no other is.
+-- `iq_format::float` meets its contract: a pattern above that of infinity, without its sign, is NaN's, and no other is.
 use borrow.Author.Tests.{le-ltb}
 use lib.Ieee.{div, ofBits}
 use lib.Ieee.Bits.{nanBits-above}
-use Rattle.cf32.proofs.Parts.{nan-float}
+use Rattle.iq_format.proofs.Parts.{nan-float}
 use borrow.Author.Needs.{needs}
-use Rattle.cf32.proofs.float.Statement.{statement}
-use Rattle.cf32.proofs.float.Tie as tie
+use Rattle.iq_format.proofs.float.Statement.{statement}
+use Rattle.iq_format.proofs.float.Tie as tie
 
 float-from-bits-result : tie.Need-float-from-bits-result
 float-from-bits-result c = rw (nanBits-above, le-ltb 0x7f80_0000 _ (c .if1 .left)) tt

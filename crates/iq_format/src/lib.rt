@@ -5,7 +5,7 @@ ghost use mathlib.Core.List.{_++_};
 ghost use Prim.Native.Nat.{_*_, _/_, min};
 ghost use lib.ListN.{length, take, drop};
 ghost use lib.Ieee.{binary32, ofBits, toBits};
-ghost use Rattle.cf32.specs.Parts.{wordOf, partsIn, partBytes};
+ghost use Rattle.iq_format.specs.Parts.{wordOf, partsIn, partBytes};
 
 fn wide(byte: u8) -> u32
     ensures { λ r. ⌜ r ≡ byte ⌝ }

@@ -1,14 +1,14 @@
--- `cf32::decode` meets its contract. The loop's invariant: so many parts are read, and the rest of the buffer is as it was.
+-- `iq_format::decode` meets its contract. The loop's invariant: so many parts are read, and the rest of the buffer is as it was.
 use mathlib.Core.Path.{_≡_, refl, sym, _∙_}
 use mathlib.Core.List.{_++_}
 use Prim.Native.Nat.{_-_, _/_, _≤_, min}
 use native.Mathlib.Omega.{arith}
 use lib.ListN.{length, take, drop, take-append-drop}
-use Rattle.cf32.specs.Parts.{partsIn}
-use Rattle.cf32.proofs.Parts.{part-turn, rest-turn}
+use Rattle.iq_format.specs.Parts.{partsIn}
+use Rattle.iq_format.proofs.Parts.{part-turn, rest-turn}
 use borrow.Author.Needs.{needs}
-use Rattle.cf32.proofs.decode.Statement.{statement}
-use Rattle.cf32.proofs.decode.Tie as tie
+use Rattle.iq_format.proofs.decode.Statement.{statement}
+use Rattle.iq_format.proofs.decode.Tie as tie
 
 abbrev Inv-loop : tie.InvT-loop
 Inv-loop bytes parts₀ count n₀ parts n =

@@ -1,9 +1,9 @@
--- `cf32::pattern` meets its contract: what differs from itself is NaN, and nothing else is.
+-- `iq_format::pattern` meets its contract: what differs from itself is NaN, and nothing else is.
 use Rattle.dsp_types.proofs.Laws.{not-nan}
-use Rattle.cf32.proofs.Parts.{nan-pattern}
+use Rattle.iq_format.proofs.Parts.{nan-pattern}
 use borrow.Author.Needs.{needs}
-use Rattle.cf32.proofs.pattern.Statement.{statement}
-use Rattle.cf32.proofs.pattern.Tie as tie
+use Rattle.iq_format.proofs.pattern.Statement.{statement}
+use Rattle.iq_format.proofs.pattern.Tie as tie
 
 float-to-bits-result : tie.Need-float-to-bits-result
 float-to-bits-result c = not-nan (c .before .args .x) (c .if1 .left)

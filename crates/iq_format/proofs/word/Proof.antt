@@ -1,8 +1,8 @@
--- `cf32::word` meets its contract.
-use Rattle.cf32.specs.Parts.{wordOf}
+-- `iq_format::word` meets its contract.
+use Rattle.iq_format.specs.Parts.{wordOf}
 use borrow.Author.Needs.{needs}
-use Rattle.cf32.proofs.word.Statement.{statement}
-use Rattle.cf32.proofs.word.Tie as tie
+use Rattle.iq_format.proofs.word.Statement.{statement}
+use Rattle.iq_format.proofs.word.Tie as tie
 
 wide-requires : tie.Need-wide-requires
 wide-requires c κs = search needs

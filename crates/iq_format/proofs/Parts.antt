@@ -12,7 +12,7 @@ use lib.Ieee.{Float, nan, inf, fin, binary32, isNan, ne, ofBits, toBits}
 use lib.Ieee.Bits.{nanBits-is, nanBits-above}
 use lib.Ieee.Compare.{differs-from-itself}
 use borrow.Author.Tests.{lt-ltb}
-use Rattle.cf32.specs.Parts.{wordOf, partsIn, wordBytes, partBytes}
+use Rattle.iq_format.specs.Parts.{wordOf, partsIn, wordBytes, partBytes}
 
 -- ---- NaN
 
