@@ -2,17 +2,24 @@
 use mathlib.Core.Path.{_≡_, refl, sym, ap, subst, _∙_}
 use mathlib.Core.Bool.{true}
 use lib.Dec.{T}
+use lib.IntN.{ℤ, pos, negsuc, _-ℤ_}
+use mir.Syntax.{w16}
+use mir.Val.{SFits, toZ, ofZ}
+use mir.ValLaws.{toZ-ofZ, toZ-pos}
 use mathlib.Core.List.{List, [], _∷_, _++_}
-use Prim.Native.Nat.{ℕ, zero, suc, _+_, _*_, _/_, _%_, _<_, _≤_}
+use Prim.Native.Nat.{ℕ, zero, suc, _+_, _-_, _*_, _/_, _%_, _<_, _≤_, min}
 use native.Mathlib.Omega.{arith}
+use native.Mathlib.Nat.{mul-suc}
 use native.Mathlib.Numerals.{add-one}
-use lib.ListN.{getD, length, set, take, drop, length-append}
-use lib.Seq.{take-suc, take-suc-set, drop-set-lt, drop-drop, take-at, drop-at, sets-eq, length-take-le}
+use lib.ListN.{getD, length, set, take, drop, length-append, length-set, take-append-drop}
+use lib.Seq.{take-suc, take-suc-set, drop-set-lt, drop-cons, drop-drop, take-at, drop-at, sets-eq, length-take-le}
 use lib.Ieee.{Float, nan, inf, fin, binary32, isNan, ne, ofBits, toBits}
 use lib.Ieee.Bits.{nanBits-is, nanBits-above}
 use lib.Ieee.Compare.{differs-from-itself}
-use borrow.Author.Tests.{lt-ltb}
-use Rattle.iq_format.specs.Parts.{wordOf, partsIn, wordBytes, partBytes}
+use borrow.Author.Tests.{lt-ltb, le-ltb}
+use Rattle.iq_format.specs.declared.Format.{Format}
+use Rattle.iq_format.specs.declared.Format.the-variants.{Cf32, Cs16, Cu8}
+use Rattle.iq_format.specs.Parts.{wordOf, width, signed16, partOf, firstParts, partsIn, wordBytes, partBytes}
 
 -- ---- NaN
 
@@ -31,39 +38,111 @@ nan-float p h = only-nan (ofBits binary32 p) (sym (nanBits-is binary32 p) ∙ na
 
 -- ---- parts read
 
-length-parts : (n : ℕ) (bytes : List ℕ) → 4 * n ≤ length bytes → n ≤ length (partsIn bytes)
-unfolding partsIn
-length-parts zero bytes h = omega arith
-length-parts (suc n) [] h = absurd (omega arith)
-length-parts (suc n) (a ∷ []) h = absurd (omega arith)
-length-parts (suc n) (a ∷ b ∷ []) h = absurd (omega arith)
-length-parts (suc n) (a ∷ b ∷ c ∷ []) h = absurd (omega arith)
-length-parts (suc n) (a ∷ b ∷ c ∷ d ∷ bytes) h = let l = length-parts n bytes (omega arith) in omega (arith, l)
+-- the sign bit is clear
+pub signed-above : (w : ℕ) → w < 0x8000 → toZ w16 w ≡ signed16 w
+unfolding signed16
+signed-above w h = toZ-pos w16 w h ∙ rw (lt-ltb w 0x8000 h)
 
-part-at : (n : ℕ) (bytes : List ℕ) → 4 * n + 3 < length bytes
-    → getD (partsIn bytes) n nan ≡ ofBits binary32 (wordOf (getD bytes (4 * n) 0) (getD bytes (4 * n + 1) 0) (getD bytes (4 * n + 2) 0) (getD bytes (4 * n + 3) 0))
-unfolding partsIn
-part-at n [] h = absurd (omega arith)
-part-at n (a ∷ []) h = absurd (omega arith)
-part-at n (a ∷ b ∷ []) h = absurd (omega arith)
-part-at n (a ∷ b ∷ c ∷ []) h = absurd (omega arith)
-part-at zero (a ∷ b ∷ c ∷ d ∷ bytes) h = refl
-part-at (suc n) (a ∷ b ∷ c ∷ d ∷ bytes) h =
-    let i : 4 * suc n ≡ suc (suc (suc (suc (4 * n)))) = omega arith in
-    let j : 4 * suc n + 1 ≡ suc (suc (suc (suc (4 * n + 1)))) = omega arith in
-    let k : 4 * suc n + 2 ≡ suc (suc (suc (suc (4 * n + 2)))) = omega arith in
-    let l : 4 * suc n + 3 ≡ suc (suc (suc (suc (4 * n + 3)))) = omega arith in
-    rw (j, k, l, i) (part-at n bytes (omega arith))
+minus : (k : ℕ) → negsuc 0 -ℤ pos k ≡ negsuc k
+minus zero = refl
+minus (suc k) = ap negsuc (omega arith)
 
-pub part-turn : (n : ℕ) (bytes : List ℕ) (parts : List Float) (x : Float) (w : ℕ) → 4 * n + 3 < length bytes → n < length parts
-    → w ≡ wordOf (getD bytes (4 * n) 0) (getD bytes (4 * n + 1) 0) (getD bytes (4 * n + 2) 0) (getD bytes (4 * n + 3) 0) → x ≡ ofBits binary32 w
-    → take n parts ≡ take n (partsIn bytes) → take (n + 1) (set parts n x) ≡ take (n + 1) (partsIn bytes)
-part-turn n bytes parts x w h l e f inv =
-    let c = length-parts (suc n) bytes (omega arith) in
-    rw (add-one n, take-suc-set parts n x l, take-suc (partsIn bytes) n nan (omega (arith, c)), part-at n bytes h, f, e, inv)
+-- the sign bit is set: the other bits are turned round
+module _ (w : ℕ) (l : 0x8000 ≤ w) (h : w < 0x1_0000) where
+  turned : negsuc 0 -ℤ toZ w16 (0xffff - w) ≡ negsuc (0xffff - w)
+  turned = ap (λ (z : ℤ). negsuc 0 -ℤ z) (toZ-pos w16 (0xffff - w) (omega arith)) ∙ minus (0xffff - w)
+
+  pub signed-fits : SFits w16 (negsuc 0 -ℤ toZ w16 (0xffff - w))
+  signed-fits = rw turned (record { sfits = omega arith })
+
+  pub signed-below : toZ w16 (ofZ w16 (negsuc 0 -ℤ toZ w16 (0xffff - w))) ≡ signed16 w
+  unfolding signed16
+  signed-below = toZ-ofZ w16 _ signed-fits ∙ turned ∙ rw (le-ltb w 0x8000 l, lt-ltb w 0x1_0000 h) (ap negsuc (omega arith))
+
+-- the word of part n
+abbrev pub partWord : Format → List ℕ → ℕ → ℕ
+partWord format bytes n = wordOf (take (width format) (drop (width format * n) bytes))
+
+next-byte : (k i j : ℕ) (bytes : List ℕ) → i < length bytes → suc i ≡ j → take (suc k) (drop i bytes) ≡ getD bytes i 0 ∷ take k (drop j bytes)
+next-byte k i j bytes h e = rw (← e, drop-cons bytes i 0)
+
+pub word-of-four : (n : ℕ) (bytes : List ℕ) → 4 * n + 3 < length bytes
+    → partWord Cf32 bytes n ≡ wordOf (getD bytes (4 * n) 0 ∷ getD bytes (4 * n + 1) 0 ∷ getD bytes (4 * n + 2) 0 ∷ getD bytes (4 * n + 3) 0 ∷ [])
+word-of-four n bytes h =
+    rw (
+      next-byte 3 (4 * n) (4 * n + 1) bytes (omega arith) (omega arith),
+      next-byte 2 (4 * n + 1) (4 * n + 2) bytes (omega arith) (omega arith),
+      next-byte 1 (4 * n + 2) (4 * n + 3) bytes (omega arith) (omega arith),
+      next-byte 0 (4 * n + 3) (4 * n + 4) bytes (omega arith) (omega arith),
+    )
+
+pub word-of-two : (n : ℕ) (bytes : List ℕ) → 2 * n + 1 < length bytes → partWord Cs16 bytes n ≡ wordOf (getD bytes (2 * n) 0 ∷ getD bytes (2 * n + 1) 0 ∷ [])
+word-of-two n bytes h = rw (next-byte 1 (2 * n) (2 * n + 1) bytes (omega arith) (omega arith), next-byte 0 (2 * n + 1) (2 * n + 2) bytes (omega arith) (omega arith))
+
+pub word-of-one : (n : ℕ) (bytes : List ℕ) → n < length bytes → partWord Cu8 bytes n ≡ wordOf (getD bytes n 0 ∷ [])
+word-of-one n bytes h = let e : 1 * n ≡ n = omega arith in rw (e, next-byte 0 n (n + 1) bytes h (omega arith))
+
+length-first : (format : Format) (m : ℕ) (bytes : List ℕ) → length (firstParts format m bytes) ≡ m
+unfolding firstParts
+length-first format zero bytes = refl
+length-first format (suc m) bytes = ap suc (length-first format m (drop (width format) bytes))
+
+first-at : (format : Format) (m n : ℕ) (bytes : List ℕ) → n < m → getD (firstParts format m bytes) n nan ≡ partOf format (partWord format bytes n)
+unfolding firstParts
+first-at format zero n bytes h = absurd (omega arith)
+first-at format (suc m) zero bytes h = let z : width format * 0 ≡ 0 = omega arith in rw z
+first-at format (suc m) (suc n) bytes h =
+    let w = width format in
+    let e : w * suc n ≡ w + w * n = omega (arith, mul-suc w n) in
+    rw (e, ← drop-drop (w * n) w bytes) (first-at format m n (drop w bytes) (omega arith))
 
 pub rest-turn : {A : Type 0} (n : ℕ) (parts parts₀ : List A) (x : A) → drop n parts ≡ drop n parts₀ → drop (n + 1) (set parts n x) ≡ drop (n + 1) parts₀
 rest-turn n parts parts₀ x inv = drop-set-lt (n + 1) parts n x (omega arith) ∙ sym (drop-drop 1 n parts) ∙ ap (drop 1) inv ∙ drop-drop 1 n parts₀
+
+-- so many parts are read, and the rest of the buffer is as it was
+pub record Read (format : Format) (bytes : List ℕ) (parts₀ parts : List Float) (n : ℕ) : Type 0 where
+  pub same : length parts ≡ length parts₀
+  pub read : take n parts ≡ take n (partsIn format bytes)
+  pub rest : drop n parts ≡ drop n parts₀
+
+pub read-none : (format : Format) (bytes : List ℕ) (parts : List Float) → Read format bytes parts parts 0
+read-none format bytes parts = record { same = refl; read = refl; rest = refl }
+
+pub read-all : {format : Format} {bytes : List ℕ} {parts₀ parts : List Float} {n : ℕ} → Read format bytes parts₀ parts n
+    → parts ≡ take n (partsIn format bytes) ++ drop n parts₀
+read-all {format} {bytes} {parts₀} {parts} {n} r = sym (take-append-drop n parts) ∙ (λ i. r .read i ++ r .rest i)
+
+-- a part more
+pub read-turn : {format : Format} {bytes : List ℕ} {parts₀ parts : List Float} {n : ℕ} (x : Float) → n < length bytes / width format → n < length parts
+    → x ≡ partOf format (partWord format bytes n) → Read format bytes parts₀ parts n → Read format bytes parts₀ (set parts n x) (n + 1)
+unfolding partsIn
+read-turn {format} {bytes} {parts₀} {parts} {n} x h l e r = record { same = length-set parts n x ∙ r .same; read = one-more; rest = rest-turn n parts parts₀ x (r .rest) }
+  where
+    m : ℕ
+    m = length bytes / width format
+
+    one-more : take (n + 1) (set parts n x) ≡ take (n + 1) (firstParts format m bytes)
+    one-more = rw (add-one n, take-suc-set parts n x l, take-suc (firstParts format m bytes) n nan (rw length-first h), first-at format m n bytes h, e, r .read)
+
+-- ---- which loop is run
+
+pub width-above : (format : Format) → 0 < width format
+width-above Cf32 = omega arith
+width-above Cs16 = omega arith
+width-above Cu8 = omega arith
+
+room : (format : Format) (count l p : ℕ) → count ≡ min (l / width format) p → (width format * count ≤ l) × (count ≤ p)
+room Cf32 count l p e = (omega arith, omega arith)
+room Cs16 count l p e = (omega arith, omega arith)
+room Cu8 count l p e = (omega arith, omega arith)
+
+module _ {format known : Format} (is : format ≡ known) {w count : ℕ} (e : w ≡ width format) where
+  pub loop-room : (l p : ℕ) → count ≡ min (l / w) p → (width known * count ≤ l) × (count ≤ p)
+  loop-room l p c = room known count l p (rw (e, is) at c)
+
+  pub loop-parts : (bytes : List ℕ) (parts last : List Float) → count ≡ min (length bytes / w) (length parts) → last ≡ take count (partsIn known bytes) ++ drop count parts
+      → (count ≡ min (length bytes / width format) (length parts)) × (last ≡ take count (partsIn format bytes) ++ drop count parts)
+  loop-parts bytes parts last c r = (rw e at c, rw is r)
 
 -- ---- parts written
 

@@ -1,19 +1,47 @@
--- f32 parts as bytes, four each, lowest first (01, "Samples and the filter line": a complex sample is two f32 parts). Definitions only.
-use Prim.Native.Nat.{ℕ, _+_, _*_, _/_, _%_}
+-- Samples as radio programs have them: a complex sample is two parts, re and im, each a few bytes, lowest first (01, "Samples and the filter line"). Definitions only.
+use Prim.Native.Nat.{ℕ, zero, suc, _+_, _*_, _/_, _%_}
 use mathlib.Core.List.{List, [], _∷_, _++_}
-use lib.Ieee.{Float, binary32, ofBits, toBits}
+use mathlib.Core.Bool.{cond}
+use lib.Dec.{ltb}
+use lib.IntN.{ℤ, pos, _-ℤ_}
+use lib.ListN.{length, take, drop}
+use lib.Ieee.{Float, binary32, ofBits, toBits, ofInt, sub, div}
+use Rattle.iq_format.specs.declared.Format.{Format}
+use Rattle.iq_format.specs.declared.Format.the-variants.{Cf32, Cs16, Cu8}
 
--- the word of four bytes
-unfoldable pub wordOf : ℕ → ℕ → ℕ → ℕ → ℕ
-wordOf a b c d = a + b * 0x100 + c * 0x1_0000 + d * 0x100_0000
+-- the word of bytes, lowest first
+unfoldable pub wordOf : List ℕ → ℕ
+wordOf [] = 0
+wordOf (b ∷ bytes) = b + 0x100 * wordOf bytes
 
--- the parts of bytes; fewer than four left over are none
-unfoldable pub partsIn : List ℕ → List Float
-partsIn [] = []
-partsIn (a ∷ []) = []
-partsIn (a ∷ b ∷ []) = []
-partsIn (a ∷ b ∷ c ∷ []) = []
-partsIn (a ∷ b ∷ c ∷ d ∷ bytes) = ofBits binary32 (wordOf a b c d) ∷ partsIn bytes
+-- how many bytes a part has
+abbrev pub width : Format → ℕ
+width Cf32 = 4
+width Cs16 = 2
+width Cu8 = 1
+
+-- a word of 16 bits in two's complement
+unfoldable pub signed16 : ℕ → ℤ
+signed16 w = cond (ltb w 0x8000) (pos w) (pos w -ℤ pos 0x1_0000)
+
+-- a whole number as an f32: exact up to 2^24
+unfoldable pub f32 : ℤ → Float
+f32 z = ofInt binary32 z
+
+-- the part of a word: an f32's bit pattern; a signed number over 32,768; a byte less 127.5, over 128. No rounding: each is a whole number below 2^24 over a power of two.
+unfoldable pub partOf : Format → ℕ → Float
+partOf Cf32 w = ofBits binary32 w
+partOf Cs16 w = div binary32 (f32 (signed16 w)) (f32 (pos 32768))
+partOf Cu8 w = div binary32 (sub binary32 (f32 (pos w)) (div binary32 (f32 (pos 255)) (f32 (pos 2)))) (f32 (pos 128))
+
+-- the first so many parts of bytes
+unfoldable pub firstParts : Format → ℕ → List ℕ → List Float
+firstParts format zero bytes = []
+firstParts format (suc n) bytes = partOf format (wordOf (take (width format) bytes)) ∷ firstParts format n (drop (width format) bytes)
+
+-- the parts of bytes; those left over that are less than a part are none
+unfoldable pub partsIn : Format → List ℕ → List Float
+partsIn format bytes = firstParts format (length bytes / width format) bytes
 
 -- the bytes of a word of 32 bits
 unfoldable pub wordBytes : ℕ → List ℕ

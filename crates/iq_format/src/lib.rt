@@ -1,11 +1,30 @@
-// Raw samples as radio programs have them: f32 parts re, im, re, im, .., each four bytes, lowest first (`.cf32`).
+// Raw samples as radio programs have them: parts re, im, re, im, .., each a few bytes, lowest first.
 use dsp_types::least;
 ghost use mathlib.Core.Path.{_≡_};
-ghost use mathlib.Core.List.{_++_};
-ghost use Prim.Native.Nat.{_*_, _/_, min};
+ghost use mathlib.Core.List.{[], _∷_, _++_};
+ghost use Prim.Native.Nat.{_*_, _/_, _≤_, min};
 ghost use lib.ListN.{length, take, drop};
 ghost use lib.Ieee.{binary32, ofBits, toBits};
-ghost use Rattle.iq_format.specs.Parts.{wordOf, partsIn, partBytes};
+ghost use Rattle.iq_format.specs.Parts.{wordOf, width, signed16, partOf, partsIn, partBytes};
+
+// What a file of samples holds: f32 parts as GNU Radio and csdr write them (`.cf32`), signed 16-bit ones as SoapySDR
+// does (`.cs16`), or bytes as rtl_sdr does (`.cu8`).
+pub enum Format {
+    Cf32,
+    Cs16,
+    Cu8,
+}
+
+// How many bytes a part has. A sample has two parts.
+pub fn part_bytes(format: Format) -> usize
+    ensures { λ r. ⌜ r ≡ width format ⌝ }
+{
+    match format {
+        Format::Cf32 => 4,
+        Format::Cs16 => 2,
+        Format::Cu8 => 1,
+    }
+}
 
 fn wide(byte: u8) -> u32
     ensures { λ r. ⌜ r ≡ byte ⌝ }
@@ -33,17 +52,39 @@ pub fn pattern(x: f32) -> u32
 
 // A word from its bytes, lowest first.
 fn word(a: u8, b: u8, c: u8, d: u8) -> u32
-    ensures { λ r. ⌜ r ≡ wordOf a b c d ⌝ }
+    ensures { λ r. ⌜ r ≡ wordOf (a ∷ b ∷ c ∷ d ∷ []) ⌝ }
 {
     wide(a) + wide(b) * 0x100 + wide(c) * 0x1_0000 + wide(d) * 0x100_0000
 }
 
-// Reads parts into the start of a buffer, as many as both have, and tells how many. Left-over bytes are not read.
-pub fn decode(bytes: &[u8], parts: &mut [f32]) -> usize
-    ensures count { λ r. ⌜ r ≡ min (length (now (bytes .entry)) / 4) (length (now (parts .entry))) ⌝ }
-    ensures parts { λ r. ⌜ now (parts .exit) ≡ take r (partsIn (now (bytes .entry))) ++ drop r (now (parts .entry)) ⌝ }
+// Two bytes, lowest first, as a number in two's complement.
+fn signed(low: u8, high: u8) -> i16
+    ensures { λ r. ⌜ r ≡ signed16 (wordOf (low ∷ high ∷ [])) ⌝ }
 {
-    let count = least(bytes.len() / 4, parts.len());
+    let word = wide(low) + wide(high) * 0x100;
+    if word < 0x8000 {
+        word as i16
+    } else {
+        -1 - (0xffff - word) as i16
+    }
+}
+
+fn cs16_part(low: u8, high: u8) -> f32
+    ensures { λ r. ⌜ r ≡ partOf Format.Cs16 (wordOf (low ∷ high ∷ [])) ⌝ }
+{
+    signed(low, high) as f32 / 32768.0
+}
+
+fn cu8_part(byte: u8) -> f32
+    ensures { λ r. ⌜ r ≡ partOf Format.Cu8 (wordOf (byte ∷ [])) ⌝ }
+{
+    (byte as f32 - 127.5) / 128.0
+}
+
+fn read_cf32(bytes: &[u8], parts: &mut [f32], count: usize)
+    requires { ⌜ (width Format.Cf32 * count ≤ length (now bytes)) × (count ≤ length (now parts)) ⌝ }
+    ensures { λ r. ⌜ now (parts .exit) ≡ take count (partsIn Format.Cf32 (now (bytes .entry))) ++ drop count (now (parts .entry)) ⌝ }
+{
     for n in 0..count {
         parts[n] = float(word(
             bytes[4 * n],
@@ -51,6 +92,38 @@ pub fn decode(bytes: &[u8], parts: &mut [f32]) -> usize
             bytes[4 * n + 2],
             bytes[4 * n + 3],
         ));
+    }
+}
+
+fn read_cs16(bytes: &[u8], parts: &mut [f32], count: usize)
+    requires { ⌜ (width Format.Cs16 * count ≤ length (now bytes)) × (count ≤ length (now parts)) ⌝ }
+    ensures { λ r. ⌜ now (parts .exit) ≡ take count (partsIn Format.Cs16 (now (bytes .entry))) ++ drop count (now (parts .entry)) ⌝ }
+{
+    for n in 0..count {
+        parts[n] = cs16_part(bytes[2 * n], bytes[2 * n + 1]);
+    }
+}
+
+fn read_cu8(bytes: &[u8], parts: &mut [f32], count: usize)
+    requires { ⌜ (width Format.Cu8 * count ≤ length (now bytes)) × (count ≤ length (now parts)) ⌝ }
+    ensures { λ r. ⌜ now (parts .exit) ≡ take count (partsIn Format.Cu8 (now (bytes .entry))) ++ drop count (now (parts .entry)) ⌝ }
+{
+    for n in 0..count {
+        parts[n] = cu8_part(bytes[n]);
+    }
+}
+
+// Reads parts into the start of a buffer, as many as both have, and tells how many. Left-over bytes are not read.
+// Each format has a loop of its own, so that the compiler can work on several parts at once.
+pub fn decode(format: Format, bytes: &[u8], parts: &mut [f32]) -> usize
+    ensures count { λ r. ⌜ r ≡ min (length (now (bytes .entry)) / width format) (length (now (parts .entry))) ⌝ }
+    ensures parts { λ r. ⌜ now (parts .exit) ≡ take r (partsIn format (now (bytes .entry))) ++ drop r (now (parts .entry)) ⌝ }
+{
+    let count = least(bytes.len() / part_bytes(format), parts.len());
+    match format {
+        Format::Cf32 => read_cf32(bytes, parts, count),
+        Format::Cs16 => read_cs16(bytes, parts, count),
+        Format::Cu8 => read_cu8(bytes, parts, count),
     }
     count
 }

@@ -1,120 +1,85 @@
--- `iq_format::decode` meets its contract. The loop's invariant: so many parts are read, and the rest of the buffer is as it was.
-use mathlib.Core.Path.{_≡_, refl, sym, _∙_}
-use mathlib.Core.List.{_++_}
-use Prim.Native.Nat.{_-_, _/_, _≤_, min}
-use native.Mathlib.Omega.{arith}
-use lib.ListN.{length, take, drop, take-append-drop}
-use Rattle.iq_format.specs.Parts.{partsIn}
-use Rattle.iq_format.proofs.Parts.{part-turn, rest-turn}
+-- `iq_format::decode` meets its contract: the loop of the format's own arm is run, with as many parts as both have room for.
+use Rattle.iq_format.proofs.Parts.{width-above, loop-room, loop-parts}
 use borrow.Author.Needs.{needs}
 use Rattle.iq_format.proofs.decode.Statement.{statement}
 use Rattle.iq_format.proofs.decode.Tie as tie
 
-abbrev Inv-loop : tie.InvT-loop
-Inv-loop bytes parts₀ count n₀ parts n =
-    (n ≤ count) × (count ≡ min (length bytes / 4) (length parts₀)) × (length parts ≡ length parts₀)
-    × (take n parts ≡ take n (partsIn bytes)) × (drop n parts ≡ drop n parts₀)
+part-bytes-requires : tie.Need-part-bytes-requires
+part-bytes-requires c κs = search needs
 
-abbrev μ-loop : tie.MeasureT-loop
-μ-loop bytes parts₀ count n₀ parts n = count - n
+div-least : tie.Need-div-least
+div-least c = rw (c .part-bytes .ensures) (width-above (c .before .before .before .args .format))
 
-least-requires : tie.Need-least-requires Inv-loop μ-loop
+least-requires : tie.Need-least-requires
 least-requires c κs = search needs
 
-loop-holds : tie.Need-loop-holds Inv-loop μ-loop
-loop-holds c = (search needs, c .least .ensures, refl, refl, refl)
+enum-told : tie.Need-enum-told
+enum-told c = search needs
 
-mul-word : tie.Need-mul-word Inv-loop μ-loop
-mul-word c = search needs
+read-cf32-requires : tie.Need-read-cf32-requires
+read-cf32-requires c κs =
+    let n = c .before .before .before in
+    loop-room (c .before .enum-told .given .1) (n .before .part-bytes .ensures) _ _ (n .least .ensures)
 
-shared-slice-read-word : tie.Need-shared-slice-read-word Inv-loop μ-loop
-shared-slice-read-word c = search needs
+enum-told-2 : tie.Need-enum-told-2
+enum-told-2 c = search needs
 
-mul-word-2 : tie.Need-mul-word-2 Inv-loop μ-loop
-mul-word-2 c = search needs
+read-cs16-requires : tie.Need-read-cs16-requires
+read-cs16-requires c κs =
+    let n = c .before .before .before in
+    loop-room (c .before .enum-told2 .given .1) (n .before .part-bytes .ensures) _ _ (n .least .ensures)
 
-add-word : tie.Need-add-word Inv-loop μ-loop
-add-word c = search needs
+enum-told-3 : tie.Need-enum-told-3
+enum-told-3 c = search needs
 
-shared-slice-read-word-2 : tie.Need-shared-slice-read-word-2 Inv-loop μ-loop
-shared-slice-read-word-2 c = search needs
+read-cu8-requires : tie.Need-read-cu8-requires
+read-cu8-requires c κs =
+    let n = c .before .before .before in
+    loop-room (c .before .enum-told3 .given .1) (n .before .part-bytes .ensures) _ _ (n .least .ensures)
 
-mul-word-3 : tie.Need-mul-word-3 Inv-loop μ-loop
-mul-word-3 c = search needs
-
-add-word-2 : tie.Need-add-word-2 Inv-loop μ-loop
-add-word-2 c = search needs
-
-shared-slice-read-word-3 : tie.Need-shared-slice-read-word-3 Inv-loop μ-loop
-shared-slice-read-word-3 c = search needs
-
-mul-word-4 : tie.Need-mul-word-4 Inv-loop μ-loop
-mul-word-4 c = search needs
-
-add-word-3 : tie.Need-add-word-3 Inv-loop μ-loop
-add-word-3 c = search needs
-
-shared-slice-read-word-4 : tie.Need-shared-slice-read-word-4 Inv-loop μ-loop
-shared-slice-read-word-4 c = search needs
-
-word-requires : tie.Need-word-requires Inv-loop μ-loop
-word-requires c κs = search needs
-
-float-requires : tie.Need-float-requires Inv-loop μ-loop
-float-requires c κs = search needs
-
-mul-parts : tie.Need-mul-parts Inv-loop μ-loop
-mul-parts c = search needs
-
-slice-write-parts : tie.Need-slice-write-parts Inv-loop μ-loop
-slice-write-parts c = search needs
-
-add-n : tie.Need-add-n Inv-loop μ-loop
-add-n c = search needs
-
-loop-less : tie.Need-loop-less Inv-loop μ-loop
-loop-less c = search needs
-
-loop-again : tie.Need-loop-again Inv-loop μ-loop
-loop-again c =
-    let l = c .before .before .before .before .before .before .before .loop in
-    let a = c .before .before .before .before .before .before .before .before .before .before .before .args in
-    (search needs, l .inv .1, search needs, part-turn (l .n) (a .bytes .now) (l .parts) (c .float .result) (c .before .word .result) (omega arith) (omega arith) (c .before .word .ensures) (c .float .ensures) (l .inv .3), rest-turn (l .n) (l .parts) (a .parts .now) (c .float .result) (l .inv .4))
-
-same-length : tie.Need-same-length Inv-loop μ-loop
+same-length : tie.Need-same-length
 same-length c = search needs
 
-returns : tie.Need-returns Inv-loop μ-loop
+returns : tie.Need-returns
 returns c =
-    let l = c .before .loop in
-    let e : l .n ≡ c .before .before .least .result = omega arith in
-    (c .before .before .least .ensures, rw (← e) (sym (take-append-drop (l .n) (l .parts)) ∙ (λ i. l .inv .3 i ++ l .inv .4 i)))
+    let n = c .before .before .before .before .before .before in
+    let d = n .before .before .before .before .args in
+    loop-parts (c .before .before .before .before .enum-told .given .1) (n .before .part-bytes .ensures) (d .bytes .now) (d .parts .now) _ (n .least .ensures) (c .before .before .read-cf32 .ensures)
+
+same-length-2 : tie.Need-same-length-2
+same-length-2 c = search needs
+
+returns-2 : tie.Need-returns-2
+returns-2 c =
+    let n = c .before .before .before .before .before .before in
+    let d = n .before .before .before .before .args in
+    loop-parts (c .before .before .before .before .enum-told2 .given .1) (n .before .part-bytes .ensures) (d .bytes .now) (d .parts .now) _ (n .least .ensures) (c .before .before .read-cs16 .ensures)
+
+same-length-3 : tie.Need-same-length-3
+same-length-3 c = search needs
+
+returns-3 : tie.Need-returns-3
+returns-3 c =
+    let n = c .before .before .before .before .before .before in
+    let d = n .before .before .before .before .args in
+    loop-parts (c .before .before .before .before .enum-told3 .given .1) (n .before .part-bytes .ensures) (d .bytes .now) (d .parts .now) _ (n .least .ensures) (c .before .before .read-cu8 .ensures)
 
 pub decode-spec : {M : Type 1} → statement M
 decode-spec =
     tie.close
     (tie.spec
-    Inv-loop
-    μ-loop
+    part-bytes-requires
+    div-least
     least-requires
-    loop-holds
-    mul-word
-    shared-slice-read-word
-    mul-word-2
-    add-word
-    shared-slice-read-word-2
-    mul-word-3
-    add-word-2
-    shared-slice-read-word-3
-    mul-word-4
-    add-word-3
-    shared-slice-read-word-4
-    word-requires
-    float-requires
-    mul-parts
-    slice-write-parts
-    add-n
-    loop-less
-    loop-again
+    enum-told
+    read-cf32-requires
+    enum-told-2
+    read-cs16-requires
+    enum-told-3
+    read-cu8-requires
     same-length
-    returns)
+    returns
+    same-length-2
+    returns-2
+    same-length-3
+    returns-3)

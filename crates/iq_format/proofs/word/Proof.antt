@@ -1,4 +1,4 @@
--- `iq_format::word` meets its contract.
+-- `iq_format::word` meets its contract: each byte is 256 times the one below it.
 use Rattle.iq_format.specs.Parts.{wordOf}
 use borrow.Author.Needs.{needs}
 use Rattle.iq_format.proofs.word.Statement.{statement}
@@ -36,7 +36,7 @@ add-result-3 c = search needs
 
 returns : tie.Need-returns
 unfolding wordOf
-returns c = rw (c .before .before .before .wide .ensures, c .before .before .wide2 .ensures, c .before .wide3 .ensures, c .wide4 .ensures)
+returns c = search needs
 
 pub word-spec : {M : Type 1} → statement M
 word-spec =
