@@ -1,5 +1,8 @@
 // Raw samples as radio programs have them: parts re, im, re, im, .., each a few bytes, lowest first.
+mod meter;
+
 use dsp_types::least;
+pub use meter::level;
 ghost use mathlib.Core.Path.{_≡_};
 ghost use mathlib.Core.List.{[], _∷_, _++_};
 ghost use Prim.Native.Nat.{_*_, _/_, _≤_, min};
