@@ -27,7 +27,7 @@ unfoldable pub stepsAbove : ℕ → List Float → ℕ
 stepsAbove zero parts = 0
 stepsAbove (suc k) parts = stepsAbove k parts + cond (allQuieter k parts) 1 0
 
--- the level in dB below full scale: 0 where a part is 1.0 or more, 6 for parts up to 0.5, at most 99
+-- the level in dB below full scale, rounded up: 0 where a part is 1.0 or more, 7 where the largest is 0.5, at most 99
 unfoldable pub levelOf : List Float → ℕ
 levelOf parts = stepsAbove 99 parts
 

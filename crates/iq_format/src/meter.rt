@@ -140,8 +140,8 @@ fn peak(parts: &[f32]) -> u32
     peak
 }
 
-// The level of the largest part in dB below full scale, which is 1.0: 0 where a part is 1.0 or more, at most 99. NaN
-// counts as 0.
+// The level of the largest part in dB below full scale, which is 1.0, rounded up: 0 where a part is 1.0 or more, at
+// most 99. NaN counts as 0.
 pub fn level(parts: &[f32]) -> u32
     ensures { λ r. ⌜ r ≡ levelOf (now (parts .entry)) ⌝ }
 {
