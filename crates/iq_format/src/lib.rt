@@ -53,18 +53,24 @@ pub fn pattern(x: f32) -> u32
     if x != x { 0x7fc0_0000 } else { f32::to_bits(x) }
 }
 
-// A word from its bytes, lowest first.
+// Bytes are put together lowest first, and four of them by halves: of these the compiler makes one load.
+fn half_word(low: u8, high: u8) -> u32
+    ensures { λ r. ⌜ r ≡ wordOf (low ∷ high ∷ []) ⌝ }
+{
+    wide(low) + wide(high) * 0x100
+}
+
 fn word(a: u8, b: u8, c: u8, d: u8) -> u32
     ensures { λ r. ⌜ r ≡ wordOf (a ∷ b ∷ c ∷ d ∷ []) ⌝ }
 {
-    wide(a) + wide(b) * 0x100 + wide(c) * 0x1_0000 + wide(d) * 0x100_0000
+    half_word(a, b) + half_word(c, d) * 0x1_0000
 }
 
 // Two bytes, lowest first, as a number in two's complement.
 fn signed(low: u8, high: u8) -> i16
     ensures { λ r. ⌜ r ≡ signed16 (wordOf (low ∷ high ∷ [])) ⌝ }
 {
-    let word = wide(low) + wide(high) * 0x100;
+    let word = half_word(low, high);
     if word < 0x8000 {
         word as i16
     } else {
