@@ -1,4 +1,4 @@
--- Patterns of NaN, and one turn of each loop. Assumes nothing.
+-- Patterns of NaN, words of bytes, and one turn of each loop. Assumes nothing.
 use mathlib.Core.Path.{_≡_, refl, sym, ap, subst, _∙_}
 use mathlib.Core.Bool.{true}
 use lib.Dec.{T}
@@ -96,7 +96,7 @@ first-at format (suc m) (suc n) bytes h =
     let e : w * suc n ≡ w + w * n = omega (arith, mul-suc w n) in
     rw (e, ← drop-drop (w * n) w bytes) (first-at format m n (drop w bytes) (omega arith))
 
-pub rest-turn : {A : Type 0} (n : ℕ) (parts parts₀ : List A) (x : A) → drop n parts ≡ drop n parts₀ → drop (n + 1) (set parts n x) ≡ drop (n + 1) parts₀
+rest-turn : {A : Type 0} (n : ℕ) (parts parts₀ : List A) (x : A) → drop n parts ≡ drop n parts₀ → drop (n + 1) (set parts n x) ≡ drop (n + 1) parts₀
 rest-turn n parts parts₀ x inv = drop-set-lt (n + 1) parts n x (omega arith) ∙ sym (drop-drop 1 n parts) ∙ ap (drop 1) inv ∙ drop-drop 1 n parts₀
 
 -- so many parts are read, and the rest of the buffer is as it was

@@ -24,15 +24,11 @@ width Cu8 = 1
 unfoldable pub signed16 : ℕ → ℤ
 signed16 w = cond (ltb w 0x8000) (pos w) (pos w -ℤ pos 0x1_0000)
 
--- a whole number as an f32: exact up to 2^24
-unfoldable pub f32 : ℤ → Float
-f32 z = ofInt binary32 z
-
--- the part of a word: an f32's bit pattern; a signed number over 32,768; a byte less 127.5, over 128. No rounding: each is a whole number below 2^24 over a power of two.
+-- the part of a word: an f32's bit pattern; a signed number over 32,768; a byte less 127.5, over 128. No step of these rounds.
 unfoldable pub partOf : Format → ℕ → Float
 partOf Cf32 w = ofBits binary32 w
-partOf Cs16 w = div binary32 (f32 (signed16 w)) (f32 (pos 32768))
-partOf Cu8 w = div binary32 (sub binary32 (f32 (pos w)) (div binary32 (f32 (pos 255)) (f32 (pos 2)))) (f32 (pos 128))
+partOf Cs16 w = div binary32 (ofInt binary32 (signed16 w)) (ofInt binary32 (pos 32768))
+partOf Cu8 w = div binary32 (sub binary32 (ofInt binary32 (pos w)) (div binary32 (ofInt binary32 (pos 255)) (ofInt binary32 (pos 2)))) (ofInt binary32 (pos 128))
 
 -- the first so many parts of bytes
 unfoldable pub firstParts : Format → ℕ → List ℕ → List Float

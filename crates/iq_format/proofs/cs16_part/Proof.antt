@@ -2,7 +2,7 @@
 use lib.Ieee.{ofBits, ofInt}
 use mir.Syntax.{w16}
 use mir.ValLaws.{toZ-ofZ}
-use Rattle.iq_format.specs.Parts.{partOf, f32}
+use Rattle.iq_format.specs.Parts.{partOf}
 use borrow.Author.Needs.{needs}
 use Rattle.iq_format.proofs.cs16_part.Statement.{statement}
 use Rattle.iq_format.proofs.cs16_part.Tie as tie
@@ -14,7 +14,7 @@ int-to-float-result : tie.Need-int-to-float-result
 int-to-float-result c = search needs
 
 returns : tie.Need-returns
-unfolding partOf f32 ofBits ofInt
+unfolding partOf ofBits ofInt
 returns c = rw (toZ-ofZ w16 (c .before .signed .result) (record { sfits = c .before .signed .ok }), c .before .signed .ensures)
 
 pub cs16-part-spec : {M : Type 1} → statement M
