@@ -22,7 +22,7 @@ pub(crate) fn refused(number: u32) -> Text {
 // The text with the bit pattern of a float behind it, 8 hexadecimal digits.
 fn with_float(text: Text, x: f32) -> Text {
     let mut digits = [0u8; 16];
-    let k = io::hex(cf32::pattern(x) as u64, 8, &mut digits);
+    let k = io::hex(iq_format::pattern(x) as u64, 8, &mut digits);
     text.append(&digits[..k])
 }
 

@@ -175,8 +175,8 @@ pub(crate) fn is_sample(line: &[u8], k: usize) -> bool {
 
 pub(crate) fn sample(line: &[u8], k: usize) -> ComplexSample {
     ComplexSample {
-        re: cf32::float(narrow(pattern(line, k))),
-        im: cf32::float(narrow(pattern(line, std::num::wrapping_add_usize(k, 1)))),
+        re: iq_format::float(narrow(pattern(line, k))),
+        im: iq_format::float(narrow(pattern(line, std::num::wrapping_add_usize(k, 1)))),
     }
 }
 

@@ -36,7 +36,7 @@ first, the carrier at 0 Hz, no part beyond 1024.
 
 // The samples that the block's first bytes hold are decoded. Tells how many parts they have.
 fn decode(block: &Block, len: usize, parts: &mut Parts) -> usize {
-    cf32::decode(text::front(block, len), parts)
+    iq_format::decode(iq_format::Format::Cf32, text::front(block, len), parts)
 }
 
 fn front_parts(parts: &[f32], len: usize) -> &[f32] {

@@ -23,7 +23,7 @@ pub struct Sender {
 
 fn write_samples(parts: &[f32]) -> bool {
     let mut bytes = [0u8; 8160];
-    let count = cf32::encode(parts, &mut bytes);
+    let count = iq_format::encode(parts, &mut bytes);
     io::write_all(STDOUT_FILENO, &bytes[..4 * count])
 }
 
