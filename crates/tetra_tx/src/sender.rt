@@ -94,8 +94,12 @@ impl Sender {
         self.send(false, b"")
     }
 
-    // Sends the slot that a line asks for.
+    // Sends the slot that a line asks for. Once nothing more is sent no line is judged: where the output failed, the rest of
+    // the input is not read, and the last line may be cut.
     pub(crate) fn line(self, line: &[u8]) -> Sender {
+        if !self.is_open {
+            return self;
+        }
         let mut next = self;
         next.lines = std::num::wrapping_add_u64(self.lines, 1);
         let slot = slot::of_line(next.lines, line);
