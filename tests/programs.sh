@@ -99,8 +99,8 @@ done
 
 # A name of 4,095 bytes is a name as any other.
 long=$work
-while [ ${#long} -lt 4084 ]; do long=$long/.; done
-while [ ${#long} -lt 4085 ]; do long=$long/; done
+while [ ${#long} -lt 4083 ]; do long=$long/.; done
+while [ ${#long} -lt 4084 ]; do long=$long/; done
 run listing "$long/listing.in"
 told "a path of ${#long} and 11 bytes" ''
 cmp -s "$work/out" "$work/listing.out" || fail "a path of ${#long} and 11 bytes"
