@@ -60,7 +60,7 @@ if [ -w /dev/full ]; then
     "$rx" --quiet <"$work/sent" >/dev/full 2>"$work/err"
     told "a full disk" 'tetra_rx: the lines cannot be written\n'
     "$tx" <examples/bursts.txt >/dev/full 2>"$work/err"
-    told "a full disk, sending" 'tetra_tx: the samples cannot be written\n'
+    told "a full disk, sending" 'tetra_tx: the samples cannot be written: No space left on device\n'
 fi
 
 # The hundredth slot in a row without a burst is still printed, and then it searches.

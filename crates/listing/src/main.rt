@@ -1,22 +1,26 @@
-// Lists the adjustment bits of one burst: reads all of standard input, writes the listing.
-use libc::STDERR_FILENO;
-use libc::STDIN_FILENO;
+// Lists the adjustment bits of one burst: reads all of the input, writes the listing.
 use libc::STDOUT_FILENO;
 use lister::Input;
 
-fn complain() {
-    io::write_all(STDERR_FILENO, b"listing: cannot read standard input\n");
+fn list(input: Input) {
+    let text = input.listed();
+    let bytes = text.bytes;
+    let len = text.len;
+    streams::write_or_tell(
+        STDOUT_FILENO,
+        &bytes[..len],
+        b"listing: the listing cannot be written",
+    );
 }
 
-fn main() {
+// A proved loop has to end, and nothing says that an input does: it counts down from a number that no run uses up.
+fn read_all(fd: i32) {
     let mut input = Input::new();
-    // A proved loop has to end, and nothing says that an input does: it counts down from a number that no run uses up.
     let mut turns = u64::MAX;
     while turns > 0 {
         let mut buffer = [0u8; 4096];
-        let got = libc::read(STDIN_FILENO, &mut buffer);
+        let got = streams::read_or_tell(fd, &mut buffer, b"listing: the input cannot be read");
         if got < 0 {
-            complain();
             return;
         }
         if got == 0 {
@@ -26,8 +30,27 @@ fn main() {
         input = input.feed(&buffer[..n]);
         turns -= 1;
     }
-    let text = input.listed();
-    let bytes = text.bytes;
-    let len = text.len;
-    io::write_all(STDOUT_FILENO, &bytes[..len]);
+    list(input);
+}
+
+fn main() {
+    let fd = program::input(
+        b"listing",
+        b"usage: listing [FILE]
+
+Lists the phase sums and adjustment bits of a TETRA downlink burst. The file, or
+standard input, is a letter and the bits of the burst's blocks, in burst order:
+  S   synchronization burst, 366 bits
+  N   normal burst with training sequence 1, 462 bits
+  P   normal burst with training sequence 2, 462 bits
+Other input is refused: 3 for a wrong length, 4 for a character other than 0 and
+1, 5 for another letter.
+
+  --help      this text
+  --version   the version
+",
+    );
+    if fd >= 0 {
+        read_all(fd);
+    }
 }

@@ -1,7 +1,4 @@
-// Standard input, read in blocks and handed out line by line.
-use libc::STDERR_FILENO;
-use libc::STDIN_FILENO;
-
+// The input, read in blocks and handed out line by line.
 pub type Block = [u8; 65536];
 
 // How many bytes the input's block holds, and how many of them are used up.
@@ -31,16 +28,8 @@ impl Input {
     }
 }
 
-// Reads the next block. It has no bytes at the end of the input.
-fn read_block(block: &mut Block) -> Input {
-    let got = libc::read(STDIN_FILENO, block);
-    if got < 0 {
-        io::write_all(STDERR_FILENO, b"replay: the input cannot be read\n");
-    }
-    Input {
-        len: io::count(got, &*block),
-        used: 0,
-    }
+fn read_block(fd: i32, block: &mut Block) -> isize {
+    streams::read_or_tell(fd, block, b"replay: the input cannot be read")
 }
 
 fn byte_at(block: &Block, at: usize) -> u8 {
@@ -97,16 +86,20 @@ fn line_of(len: usize, is_end: bool, input: Input) -> Line {
     }
 }
 
-// Moves the next line, without its newline, to the line's block.
-pub(crate) fn next_line(block: &mut Block, input: Input, line: &mut Block) -> Line {
+// Moves the next line, without its newline, to the line's block. What was read of one before the input failed is no line.
+pub(crate) fn next_line(fd: i32, block: &mut Block, input: Input, line: &mut Block) -> Line {
     let mut part = move_part(&*block, input, line, 0);
     let mut turns = u64::MAX;
     while turns > 0 && !part.is_whole {
         turns -= 1;
-        let more = read_block(block);
-        if more.len == 0 {
-            return line_of(part.len, part.len == 0, more);
+        let got = read_block(fd, block);
+        if got <= 0 {
+            return line_of(part.len, (part.len == 0) | (got < 0), Input::new());
         }
+        let more = Input {
+            len: io::count(got, &*block),
+            used: 0,
+        };
         part = move_part(&*block, more, line, part.len);
     }
     line_of(part.len, false, part.input)

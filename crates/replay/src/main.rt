@@ -1,4 +1,4 @@
-// Reads a list of calls from standard input, makes each call of the library in order and prints the answers.
+// Reads a list of calls, makes each call of the library in order and prints the answers.
 //
 // One call a line. A line that is no call prints `error` and changes nothing; so does a line of more than 65,536
 // bytes. A NaN is printed as 7fc00000, whatever its bits. The run ends where the input ends or cannot be read, or
@@ -23,7 +23,7 @@ use slot_receiver::Mode;
 
 // The loop counts its turns down from a number that no run uses up: a proved loop has to end, and nothing says
 // that the input does.
-fn main() {
+fn run(fd: i32) {
     let mut block = [0u8; 65536];
     let mut line = [0u8; 65536];
     let mut answers = [0u8; 65536];
@@ -35,7 +35,7 @@ fn main() {
     let mut turns = u64::MAX;
     while turns > 0 && !out.is_broken {
         turns -= 1;
-        let next = next_line(&mut block, input, &mut line);
+        let next = next_line(fd, &mut block, input, &mut line);
         input = next.input;
         if next.is_end {
             break;
@@ -59,4 +59,31 @@ fn main() {
         }
     }
     out.flush(&answers);
+}
+
+fn main() {
+    let fd = program::input(
+        b"replay",
+        b"usage: replay [FILE]
+
+Makes the calls of the TETRA slot modem that the file, or standard input, lists,
+one a line, and prints each answer, or refused and the number of the refusal. A
+line that is no call prints error and changes nothing.
+  new R MODE             receiver R, 0 to 3, anew; mode 0 to 3
+  s R COUNTER RE IM      one sample; RE and IM are f32 bit patterns
+  t R L0 L1 L2           takes the slot, with lent slices of these lengths
+  f R Q                  receiver R follows receiver Q
+  txnew                  the sender anew
+  w COUNTER SLOT BITS    one sent sample; bits - for a slot without a burst
+  j KIND LENGTH BITS     the call logger's judgement of a window's bits
+  b LETTER BITS          a burst from its blocks
+Bits are = and a digit for each. docs/REPLAY.md has the whole format.
+
+  --help      this text
+  --version   the version
+",
+    );
+    if fd >= 0 {
+        run(fd);
+    }
 }

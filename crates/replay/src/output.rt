@@ -1,7 +1,6 @@
 // The answers, gathered in a block and written to standard output a block at a time.
 use crate::input::Block;
 use crate::input::put;
-use libc::STDERR_FILENO;
 use libc::STDOUT_FILENO;
 use text::Text;
 
@@ -19,12 +18,16 @@ impl Output {
         }
     }
 
-    // Writes out what the block holds.
+    // Writes out what the block holds. A write that failed is told once, and none follows it.
     pub(crate) fn flush(self, block: &Block) -> Output {
-        let is_written = io::write_all(STDOUT_FILENO, text::front(block, self.len));
-        if !is_written {
-            io::write_all(STDERR_FILENO, b"replay: the answers cannot be written\n");
+        if self.is_broken {
+            return self;
         }
+        let is_written = streams::write_or_tell(
+            STDOUT_FILENO,
+            text::front(block, self.len),
+            b"replay: the answers cannot be written",
+        );
         Output {
             len: 0,
             is_broken: !is_written,

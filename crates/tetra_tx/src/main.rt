@@ -1,10 +1,7 @@
-// Sends bursts: a line of standard input for each slot, raw samples (`.cf32`) to standard output.
+// Sends bursts: a line of the input for each slot, raw samples (`.cf32`) to standard output.
 mod sender;
 mod slot;
 
-use libc::STDERR_FILENO;
-use libc::STDIN_FILENO;
-use libc::STDOUT_FILENO;
 use sender::Sender;
 
 type Block = [u8; 65536];
@@ -16,40 +13,6 @@ type Line = [u8; 512];
 struct Lines {
     sender: Sender,
     len: usize,
-}
-
-fn help() {
-    io::write_all(
-        STDOUT_FILENO,
-        b"usage: tetra_tx <bursts >samples.cf32
-
-Sends bursts of the TETRA downlink. Each line of the input is a slot:
-  sync BITS      366 bits, the blocks of 120, 30 and 216 bits in burst order
-  normal1 BITS   462 bits, the blocks of 216, 30 and 216; training sequence 1
-  normal2 BITS   the same with training sequence 2
-  empty          no burst
-An empty line, or one that starts with #, is passed over. A line that is none
-of these is reported, and its slot is sent without a burst. A slot without a burst
-follows the last one, so that a receiver sees its end.
-
-The output is raw samples, 72,000 a second: f32 re and im in turn, lowest byte
-first.
-",
-    );
-}
-
-// Answers a word behind the program's name. Samples go to standard output, so nothing but help that was asked for does.
-fn explain() {
-    let mut word = [0u8; 16];
-    let len = os::arg(1, &mut word);
-    if check::same(&word[..len], b"--help") {
-        help();
-    } else {
-        io::write_all(
-            STDERR_FILENO,
-            b"tetra_tx: unknown option, see tetra_tx --help\n",
-        );
-    }
 }
 
 // Sends the slot of a line of that length.
@@ -83,21 +46,16 @@ fn finish(lines: Lines, line: &Line) {
     }
 }
 
-// Reads the next block. It has no bytes at the end of the input.
-fn read_block(block: &mut Block) -> usize {
-    let got = libc::read(STDIN_FILENO, block);
-    if got < 0 {
-        io::write_all(STDERR_FILENO, b"tetra_tx: the input cannot be read\n");
-    }
-    io::count(got, &*block)
+fn read_block(fd: i32, block: &mut Block) -> isize {
+    streams::read_or_tell(fd, block, b"tetra_tx: the input cannot be read")
 }
 
-fn send_block(lines: Lines, line: &mut Line, block: &Block, len: usize) -> Lines {
-    send_lines(lines, line, text::front(block, len))
+fn send_block(lines: Lines, line: &mut Line, block: &Block, got: isize) -> Lines {
+    send_lines(lines, line, text::front(block, io::count(got, block)))
 }
 
 // A proved loop has to end, and nothing says that an input does: it counts down from a number that no run uses up.
-fn send_all() {
+fn send_all(fd: i32) {
     let mut block = [0u8; 65536];
     let mut line = [0u8; 512];
     let mut lines = Lines {
@@ -107,19 +65,42 @@ fn send_all() {
     let mut turns = u64::MAX;
     while turns > 0 && lines.sender.is_open {
         turns -= 1;
-        let n = read_block(&mut block);
-        if n == 0 {
+        let got = read_block(fd, &mut block);
+        if got < 0 {
+            // What was read of a line before that is not all of it.
+            lines.len = 0;
+        }
+        if got <= 0 {
             break;
         }
-        lines = send_block(lines, &mut line, &block, n);
+        lines = send_block(lines, &mut line, &block, got);
     }
     finish(lines, &line);
 }
 
 fn main() {
-    if os::arg_count() > 1 {
-        explain();
-    } else {
-        send_all();
+    let fd = program::input(
+        b"tetra_tx",
+        b"usage: tetra_tx [FILE] >samples.cf32
+
+Sends bursts of the TETRA downlink. Each line of the file, or of standard input,
+is a slot:
+  sync BITS      366 bits, the blocks of 120, 30 and 216 bits in burst order
+  normal1 BITS   462 bits, the blocks of 216, 30 and 216; training sequence 1
+  normal2 BITS   the same with training sequence 2
+  empty          no burst
+An empty line, or one that starts with #, is passed over. A line that is none
+of these is reported, and its slot is sent without a burst. A slot without a burst
+follows the last one, so that a receiver sees its end.
+
+The output is raw samples, 72,000 a second: f32 re and im in turn, lowest byte
+first.
+
+  --help      this text
+  --version   the version
+",
+    );
+    if fd >= 0 {
+        send_all(fd);
     }
 }

@@ -24,7 +24,11 @@ pub struct Sender {
 fn write_samples(parts: &[f32]) -> bool {
     let mut bytes = [0u8; 8160];
     let count = iq_format::encode(parts, &mut bytes);
-    io::write_all(STDOUT_FILENO, &bytes[..4 * count])
+    streams::write_or_tell(
+        STDOUT_FILENO,
+        &bytes[..4 * count],
+        b"tetra_tx: the samples cannot be written",
+    )
 }
 
 impl Sender {
@@ -43,7 +47,7 @@ impl Sender {
 
     // The counter is used up.
     fn closed(self) -> Sender {
-        io::write_all(
+        streams::write_all(
             STDERR_FILENO,
             b"tetra_tx: no more samples, the counter is at its end\n",
         );
@@ -74,9 +78,6 @@ impl Sender {
             &mut parts,
         );
         let is_written = write_samples(&parts[..2 * sent.count]);
-        if !is_written {
-            io::write_all(STDERR_FILENO, b"tetra_tx: the samples cannot be written\n");
-        }
         let next = sent.modulator;
         let mapper = sent.mapper;
         Sender {
@@ -94,8 +95,12 @@ impl Sender {
         self.send(false, b"")
     }
 
-    // Sends the slot that a line asks for.
+    // Sends the slot that a line asks for. Once nothing more is sent no line is judged: where the output failed, the rest of
+    // the input is not read, and the last line may be cut.
     pub(crate) fn line(self, line: &[u8]) -> Sender {
+        if !self.is_open {
+            return self;
+        }
         let mut next = self;
         next.lines = std::num::wrapping_add_u64(self.lines, 1);
         let slot = slot::of_line(next.lines, line);

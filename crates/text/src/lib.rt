@@ -116,10 +116,10 @@ impl Text {
         least(self.len, 2048)
     }
 
-    // Writes it to a file descriptor, and answers as io::write_all does.
+    // Writes it to a file descriptor, and answers as streams::write_all does.
     pub fn print(self, fd: i32) -> bool {
         let bytes = self.bytes;
         let len = self.length();
-        io::write_all(fd, &bytes[..len])
+        streams::write_all(fd, &bytes[..len])
     }
 }

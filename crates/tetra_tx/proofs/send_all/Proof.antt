@@ -4,11 +4,11 @@ use Rattle.tetra_tx.proofs.send_all.Statement.{statement}
 use Rattle.tetra_tx.proofs.send_all.Tie as tie
 
 abbrev Inv-loop : tie.InvT-loop
-Inv-loop block₀ line₀ lines₀ turns₀ block line lines turns =
+Inv-loop fd block₀ line₀ lines₀ turns₀ block line lines turns =
     Unit {0}
 
 abbrev μ-loop : tie.MeasureT-loop
-μ-loop block₀ line₀ lines₀ turns₀ block line lines turns =
+μ-loop fd block₀ line₀ lines₀ turns₀ block line lines turns =
     turns
 
 pub send-all-spec : {M : Type 1} → statement M

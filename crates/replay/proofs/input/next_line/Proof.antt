@@ -4,10 +4,10 @@ use Rattle.replay.proofs.input.next_line.Statement.{statement}
 use Rattle.replay.proofs.input.next_line.Tie as tie
 
 abbrev Inv-loop : tie.InvT-loop
-Inv-loop block₀ line₀ part₀ turns₀ block line part turns = Unit {0}
+Inv-loop fd block₀ line₀ part₀ turns₀ block line part turns = Unit {0}
 
 abbrev μ-loop : tie.MeasureT-loop
-μ-loop block₀ line₀ part₀ turns₀ block line part turns = turns
+μ-loop fd block₀ line₀ part₀ turns₀ block line part turns = turns
 
 move-part-requires : tie.Need-move-part-requires Inv-loop μ-loop
 move-part-requires c κs = search needs
@@ -21,11 +21,17 @@ sub-turns c = search needs
 read-block-requires : tie.Need-read-block-requires Inv-loop μ-loop
 read-block-requires c κs = search needs
 
+new-requires : tie.Need-new-requires Inv-loop μ-loop
+new-requires c κs = search needs
+
 line-of-requires : tie.Need-line-of-requires Inv-loop μ-loop
 line-of-requires c κs = search needs
 
 returns : tie.Need-returns Inv-loop μ-loop
 returns c = search needs
+
+count-requires : tie.Need-count-requires Inv-loop μ-loop
+count-requires c κs = search needs
 
 move-part-requires-2 : tie.Need-move-part-requires-2 Inv-loop μ-loop
 move-part-requires-2 c κs = search needs
@@ -52,8 +58,10 @@ next-line-spec =
     loop-holds
     sub-turns
     read-block-requires
+    new-requires
     line-of-requires
     returns
+    count-requires
     move-part-requires-2
     loop-less
     loop-again

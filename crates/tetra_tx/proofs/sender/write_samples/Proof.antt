@@ -17,11 +17,14 @@ mul-bytes c = search needs
 array-share-prefix-bytes : tie.Need-array-share-prefix-bytes
 array-share-prefix-bytes c = search needs
 
-slice-aggregate-write-all : tie.Need-slice-aggregate-write-all
-slice-aggregate-write-all c = sym (length-take-le _ _ (search needs))
+slice-aggregate-write-or-tell : tie.Need-slice-aggregate-write-or-tell
+slice-aggregate-write-or-tell c = sym (length-take-le _ _ (search needs))
 
-write-all-requires : tie.Need-write-all-requires
-write-all-requires c κs = search needs
+slice-aggregate-write-or-tell-2 : tie.Need-slice-aggregate-write-or-tell-2
+slice-aggregate-write-or-tell-2 c = search needs
+
+write-or-tell-requires : tie.Need-write-or-tell-requires
+write-or-tell-requires c κs = search needs
 
 returns : tie.Need-returns
 returns c = search needs
@@ -34,6 +37,7 @@ write-samples-spec =
     encode-requires
     mul-bytes
     array-share-prefix-bytes
-    slice-aggregate-write-all
-    write-all-requires
+    slice-aggregate-write-or-tell
+    slice-aggregate-write-or-tell-2
+    write-or-tell-requires
     returns)

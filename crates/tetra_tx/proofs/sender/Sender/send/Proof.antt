@@ -27,8 +27,8 @@ closed-requires-2 c κs = search needs
 returns-3 : tie.Need-returns-3
 returns-3 c = search needs
 
-cast-t12 : tie.Need-cast-t12
-cast-t12 c = search needs
+cast-t11 : tie.Need-cast-t11
+cast-t11 c = search needs
 
 slice-aggregate-block : tie.Need-slice-aggregate-block
 slice-aggregate-block c = search needs
@@ -53,17 +53,11 @@ slice-aggregate-write-samples c =
 write-samples-requires : tie.Need-write-samples-requires
 write-samples-requires c κs = search needs
 
-slice-aggregate-write-all : tie.Need-slice-aggregate-write-all
-slice-aggregate-write-all c = search needs
+add-t20 : tie.Need-add-t20
+add-t20 c = omega (arith, few (c .before .before .before .before .before .before .before))
 
-write-all-requires : tie.Need-write-all-requires
-write-all-requires c κs = search needs
-
-add-t24 : tie.Need-add-t24
-add-t24 c = omega (arith, few (c .before .before .before .before .before .before .before .before))
-
-add-t25 : tie.Need-add-t25
-add-t25 c = search needs
+add-t21 : tie.Need-add-t21
+add-t21 c = search needs
 
 returns-4 : tie.Need-returns-4
 returns-4 c = search needs
@@ -77,15 +71,13 @@ send-spec =
     returns-2
     closed-requires-2
     returns-3
-    cast-t12
+    cast-t11
     slice-aggregate-block
     block-requires
     mul-parts
     array-share-prefix-parts
     slice-aggregate-write-samples
     write-samples-requires
-    slice-aggregate-write-all
-    write-all-requires
-    add-t24
-    add-t25
+    add-t20
+    add-t21
     returns-4)

@@ -1,13 +1,13 @@
--- `listing::main` is safe and ends. The measure is the number of turns that are left; nothing has to hold from turn to turn.
+-- `listing::read_all` is safe and ends. The measure is the number of turns that are left; nothing has to hold from turn to turn.
 use borrow.Author.Needs.{needs}
-use Rattle.listing.proofs.main.Statement.{statement}
-use Rattle.listing.proofs.main.Tie as tie
+use Rattle.listing.proofs.read_all.Statement.{statement}
+use Rattle.listing.proofs.read_all.Tie as tie
 
 abbrev Inv-loop : tie.InvT-loop
-Inv-loop input₀ turns₀ input turns = Unit {0}
+Inv-loop fd input₀ turns₀ t7 input turns = Unit {0}
 
 abbrev μ-loop : tie.MeasureT-loop
-μ-loop input₀ turns₀ input turns = turns
+μ-loop fd input₀ turns₀ t7 input turns = turns
 
 new-requires : tie.Need-new-requires Inv-loop μ-loop
 new-requires c κs = search needs
@@ -15,14 +15,14 @@ new-requires c κs = search needs
 loop-holds : tie.Need-loop-holds Inv-loop μ-loop
 loop-holds c = search needs
 
-slice-aggregate-read : tie.Need-slice-aggregate-read Inv-loop μ-loop
-slice-aggregate-read c = search needs
+slice-aggregate-read-or-tell : tie.Need-slice-aggregate-read-or-tell Inv-loop μ-loop
+slice-aggregate-read-or-tell c = search needs
 
-read-requires : tie.Need-read-requires Inv-loop μ-loop
-read-requires c κs = search needs
+slice-aggregate-read-or-tell-2 : tie.Need-slice-aggregate-read-or-tell-2 Inv-loop μ-loop
+slice-aggregate-read-or-tell-2 c = search needs
 
-complain-requires : tie.Need-complain-requires Inv-loop μ-loop
-complain-requires c κs = search needs
+read-or-tell-requires : tie.Need-read-or-tell-requires Inv-loop μ-loop
+read-or-tell-requires c κs = search needs
 
 returns : tie.Need-returns Inv-loop μ-loop
 returns c = search needs
@@ -51,32 +51,23 @@ loop-less c = search needs
 loop-again : tie.Need-loop-again Inv-loop μ-loop
 loop-again c = search needs
 
-listed-requires : tie.Need-listed-requires Inv-loop μ-loop
-listed-requires c κs = search needs
-
-array-share-prefix-bytes : tie.Need-array-share-prefix-bytes Inv-loop μ-loop
-array-share-prefix-bytes c = search needs
-
-slice-aggregate-write-all : tie.Need-slice-aggregate-write-all Inv-loop μ-loop
-slice-aggregate-write-all c = search needs
-
-write-all-requires : tie.Need-write-all-requires Inv-loop μ-loop
-write-all-requires c κs = search needs
+list-requires : tie.Need-list-requires Inv-loop μ-loop
+list-requires c κs = search needs
 
 returns-2 : tie.Need-returns-2 Inv-loop μ-loop
 returns-2 c = search needs
 
-pub main-spec : {M : Type 1} → statement M
-main-spec =
+pub read-all-spec : {M : Type 1} → statement M
+read-all-spec =
     tie.close
     (tie.spec
     Inv-loop
     μ-loop
     new-requires
     loop-holds
-    slice-aggregate-read
-    read-requires
-    complain-requires
+    slice-aggregate-read-or-tell
+    slice-aggregate-read-or-tell-2
+    read-or-tell-requires
     returns
     slice-aggregate-count
     count-requires
@@ -86,8 +77,5 @@ main-spec =
     sub-turns
     loop-less
     loop-again
-    listed-requires
-    array-share-prefix-bytes
-    slice-aggregate-write-all
-    write-all-requires
+    list-requires
     returns-2)

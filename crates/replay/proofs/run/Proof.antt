@@ -1,15 +1,15 @@
--- `replay::main` is safe and ends: each turn is counted down.
+-- `replay::run` is safe and ends: each turn is counted down.
 use native.Mathlib.Omega.{arith}
 use borrow.Author.Needs.{needs}
-use Rattle.replay.proofs.main.Statement.{statement}
-use Rattle.replay.proofs.main.Tie as tie
+use Rattle.replay.proofs.run.Statement.{statement}
+use Rattle.replay.proofs.run.Tie as tie
 
 abbrev Inv-loop : tie.InvT-loop
-Inv-loop block₀ line₀ answers₀ input₀ out₀ session₀ receivers₀ made₀ turns₀ block line answers input out session receivers made turns =
+Inv-loop fd block₀ line₀ answers₀ input₀ out₀ session₀ receivers₀ made₀ turns₀ block line answers input out session receivers made turns =
     Unit {0}
 
 abbrev μ-loop : tie.MeasureT-loop
-μ-loop block₀ line₀ answers₀ input₀ out₀ session₀ receivers₀ made₀ turns₀ block line answers input out session receivers made turns =
+μ-loop fd block₀ line₀ answers₀ input₀ out₀ session₀ receivers₀ made₀ turns₀ block line answers input out session receivers made turns =
     turns
 
 new-requires : tie.Need-new-requires Inv-loop μ-loop
@@ -90,8 +90,8 @@ flush-requires c κs = search needs
 returns : tie.Need-returns Inv-loop μ-loop
 returns c = search needs
 
-pub main-spec : {M : Type 1} → statement M
-main-spec =
+pub run-spec : {M : Type 1} → statement M
+run-spec =
     tie.close
     (tie.spec
     Inv-loop
