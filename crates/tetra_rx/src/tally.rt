@@ -1,141 +1,187 @@
-// What a run has told so far.
+// What a run has come to, and what is told of it.
+use crate::link::Link;
+use crate::options::Options;
+use crate::report;
 use libc::STDERR_FILENO;
 use libc::STDOUT_FILENO;
-use receiver::Stop;
 use text::Text;
+
+// A second of samples, after which the progress line is written anew, and a minute.
+const SECOND: u64 = 72000;
+
+const MINUTE: u64 = 60 * SECOND;
+
+const SEARCHING: u8 = 1;
 
 pub struct Tally {
     // The counter of the next sample.
     pub counter: u64,
-    slots: u64,
-    refused: u64,
     // Whether the lines can be written and the counter goes on.
     pub is_open: bool,
-}
-
-// The text with words and a number behind it.
-fn with_number(text: Text, words: &[u8], n: u64) -> Text {
-    text.append(words).decimal(n)
-}
-
-// The text with a downlink receiver's mode behind it.
-fn with_mode(text: Text, mode: u8) -> Text {
-    if mode == 2 {
-        text.append(b"locked")
-    } else {
-        text.append(b"searching")
-    }
-}
-
-// Reports the text, with these words behind it.
-fn report(text: Text, words: &[u8]) {
-    text.append(words).print(STDERR_FILENO);
-}
-
-// A step goes on behind the window that locked, up to the first slot: the change came before this sample.
-pub(crate) fn tell_mode(mode: u8, counter: u64) {
-    let named = with_mode(Text::new().append(b"tetra_rx: "), mode);
-    report(with_number(named, b" by sample ", counter), b"\n");
-}
-
-fn tell_refused(number: u32, counter: u64) {
-    let sample = with_number(Text::new(), b"tetra_rx: sample ", counter);
-    report(
-        with_number(sample, b" refused=", number as u64),
-        b", taken as missing; more such are counted\n",
-    );
-}
-
-// The bytes of half a sample are told.
-pub(crate) fn tell_rest(held: usize) {
-    report(
-        with_number(Text::new(), b"tetra_rx: the last ", held as u64),
-        b" bytes are no whole sample\n",
-    );
-}
-
-// One sample, or several.
-fn with_refused(text: Text, refused: u64) -> Text {
-    if refused == 1 {
-        text.append(b" sample refused, ")
-    } else {
-        text.append(b" samples refused, ")
-    }
+    is_quiet: bool,
+    is_progress: bool,
+    // The downlink's mode, since which sample, and whether advice was given since.
+    mode: u8,
+    since: u64,
+    is_advised: bool,
+    // When the progress line is written next.
+    next: u64,
+    down: Link,
+    up: Link,
 }
 
 impl Tally {
-    pub(crate) fn new() -> Tally {
+    pub(crate) fn new(options: Options) -> Tally {
+        let is_terminal = libc::isatty(STDERR_FILENO) == 1;
         Tally {
             counter: 0,
-            slots: 0,
-            refused: 0,
             is_open: true,
+            is_quiet: options.is_quiet,
+            is_progress: (is_terminal | options.is_progress) & !options.is_quiet,
+            mode: SEARCHING,
+            since: 0,
+            is_advised: false,
+            next: SECOND,
+            down: Link::new(false),
+            up: Link::new(true),
         }
     }
 
-    // With the line of a slot, which is printed.
-    fn print(self, line: Text) -> Tally {
-        let is_written = line.print(STDOUT_FILENO);
-        if !is_written {
-            io::write_all(STDERR_FILENO, b"tetra_rx: the lines cannot be written\n");
+    // With the mode that the downlink is in behind so many samples. A step goes on behind the window that locked, up to
+    // the first slot: the change came before.
+    pub(crate) fn with_mode(self, mode: u8, counter: u64) -> Tally {
+        if mode == self.mode {
+            return self;
         }
         let mut next = self;
-        next.is_open = is_written;
-        next.slots = std::num::wrapping_add_u64(self.slots, 1);
+        next.mode = mode;
+        next.since = counter;
+        next.is_advised = false;
+        if !self.is_quiet {
+            let begun = report::with_mode(report::begun(false, self.is_progress), mode);
+            report::tell(report::with_number(begun, b" by sample ", counter), b"\n");
+        }
         next
     }
 
-    // With a sample more that is refused by that number: it is told once, and all are counted.
-    fn refuse(self, number: u32) -> Tally {
-        if self.refused == 0 {
-            tell_refused(number, std::num::wrapping_sub_u64(self.counter, 1));
-        }
+    // With a slot whose line is printed.
+    pub(crate) fn print(self, is_up: bool, line: Text) -> Tally {
         let mut next = self;
-        next.refused = std::num::wrapping_add_u64(self.refused, 1);
+        next.is_open = line.print(STDOUT_FILENO);
+        if !next.is_open {
+            program::fail(b"tetra_rx", b"the lines cannot be written");
+        }
+        if is_up {
+            next.up = self.up.with_slot();
+        } else {
+            next.down = self.down.with_slot();
+        }
         next
     }
 
-    // With so many samples more.
-    pub(crate) fn moved(self, taken: usize) -> Tally {
+    // With a refused sample.
+    pub(crate) fn refuse(self, is_up: bool, counter: u64) -> Tally {
         let mut next = self;
-        next.counter = std::num::wrapping_add_u64(self.counter, taken as u64);
+        if is_up {
+            next.up = self
+                .up
+                .told_by(counter, self.is_progress)
+                .with_refused(counter);
+        } else {
+            next.down = self
+                .down
+                .told_by(counter, self.is_progress)
+                .with_refused(counter);
+        }
         next
     }
 
-    // The counter behind the last sample that was accepted.
-    pub(crate) fn heard_up_to(self, stop: Stop) -> u64 {
-        match stop {
-            Stop::End => self.counter,
-            Stop::Slot => self.counter,
-            Stop::Refused(_) => std::num::wrapping_sub_u64(self.counter, 1),
+    // After a minute of search without a lock.
+    fn advised(self) -> Tally {
+        let searched = std::num::wrapping_sub_u64(self.counter, self.since);
+        if self.is_quiet | self.is_advised | (self.mode != SEARCHING) | (searched < MINUTE) {
+            return self;
         }
+        report::tell(
+            report::begun(false, self.is_progress),
+            b"no lock for a minute: is the carrier within 1,600 Hz of 0, are there 72,000 samples a second, are I and Q exchanged?\n",
+        );
+        let mut next = self;
+        next.is_advised = true;
+        next
     }
 
-    // With what a step came to: a slot's line, or a refused sample.
-    pub(crate) fn stopped(self, stop: Stop, line: Text) -> Tally {
-        match stop {
-            Stop::End => self,
-            Stop::Slot => self.print(line),
-            Stop::Refused(number) => self.refuse(number),
+    // Writes the progress line anew after each second of samples, with the level of the newest.
+    fn progress(self, parts: &[f32]) -> Tally {
+        if !self.is_progress | (self.counter < self.next) {
+            return self;
         }
+        let samples =
+            report::with_count(report::begun(false, true), self.counter, b" sample").append(b", ");
+        let level = self
+            .down
+            .summary(samples)
+            .append(b", level -")
+            .decimal(iq_format::level(parts) as u64);
+        let mode = report::with_mode(level.append(b" dBFS, "), self.mode);
+        report::tell(
+            report::with_number(mode, b" since sample ", self.since),
+            b"",
+        );
+        let mut next = self;
+        next.next = std::num::wrapping_add_u64(self.counter, SECOND);
+        next
     }
 
-    // The samples of this block are at the counter's end.
+    // With so many samples more, of which the downlink's are given.
+    pub(crate) fn moved(self, n: usize, parts: &[f32]) -> Tally {
+        let mut next = self;
+        next.counter = std::num::wrapping_add_u64(self.counter, n as u64);
+        next.down = self.down.told_by(next.counter, self.is_progress);
+        next.up = self.up.told_by(next.counter, self.is_progress);
+        next.advised().progress(parts)
+    }
+
+    // There are no more counters.
     pub(crate) fn close(self) -> Tally {
-        io::write_all(
-            STDERR_FILENO,
-            b"tetra_rx: no more samples, the counter is at its end\n",
+        report::tell(
+            report::begun(false, self.is_progress),
+            b"no more samples, the counter is at its end\n",
         );
         let mut next = self;
         next.is_open = false;
         next
     }
 
-    // Tells the whole run, and the mode that the receiver is in.
-    pub(crate) fn summary(self, mode: u8) {
-        let samples = with_number(Text::new(), b"tetra_rx: ", self.counter);
-        let slots = with_number(samples, b" samples, ", self.slots);
-        let refused = with_number(slots, b" slots, ", self.refused);
-        report(with_mode(with_refused(refused, self.refused), mode), b"\n");
+    // Tells what is left: refused samples, the bytes of half a sample, and the summary.
+    pub(crate) fn finish(self, rest: usize, has_uplink: bool) {
+        self.down.told(self.is_progress);
+        self.up.told(self.is_progress);
+        if rest > 0 {
+            report::tell(
+                report::with_number(
+                    report::begun(false, self.is_progress),
+                    b"the last ",
+                    rest as u64,
+                ),
+                b" bytes are no whole sample\n",
+            );
+        }
+        if !self.is_quiet {
+            self.summary(has_uplink);
+        }
+    }
+
+    fn summary(self, has_uplink: bool) {
+        let samples = report::with_count(
+            report::begun(false, self.is_progress),
+            self.counter,
+            b" sample",
+        );
+        let slots = self.down.summary(samples.append(b", "));
+        report::tell(report::with_mode(slots.append(b", "), self.mode), b"\n");
+        if has_uplink {
+            report::tell(self.up.summary(report::begun(true, false)), b"\n");
+        }
     }
 }
