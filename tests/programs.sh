@@ -22,10 +22,10 @@ run() {
     "$bin/$program" "$@" >"$work/out" 2>"$work/err"
 }
 
-# What each program reads, more than 64 KB of it, what it writes of that, and what it calls that.
+# What each program reads, more than 64 KB for those that go on behind a line, and what it writes of that.
 awk '/^sync/ { for (i = 0; i < 200; i++) print }' examples/bursts.txt >"$work/tetra_tx.in"
 printf 'S%0366d\n' 0 >"$work/listing.in"
-cat tests/replay/figures.calls tests/replay/builders.calls >"$work/replay.in"
+cat tests/replay/builders.calls tests/replay/builders.calls tests/replay/builders.calls >"$work/replay.in"
 for program in tetra_tx listing replay; do
     run $program <"$work/$program.in"
     told "$program" ''
@@ -34,6 +34,7 @@ for program in tetra_tx listing replay; do
 done
 [ "$(wc -c <"$work/tetra_tx.in")" -gt 200000 ] || fail "too few lines for tetra_tx"
 [ "$(wc -c <"$work/replay.out")" -gt 65536 ] || fail "too few answers of replay"
+# outcome PROGRAM: what it calls its output
 outcome() {
     case $1 in
     tetra_tx) echo samples ;;

@@ -1,5 +1,6 @@
 // The words of the command line, read one behind the other.
 ghost use mathlib.Core.Path.{_≡_};
+ghost use Prim.Native.Nat.{_+_, _%_, _^_};
 ghost use mathlib.Core.Bool.{false, _||_};
 ghost use lib.ListN.{take};
 ghost use Rattle.io.specs.Counts.{Counts};
@@ -89,10 +90,11 @@ impl Words {
         os::arg_count() <= self.at
     }
 
-    // The next word.
+    // The next word. One that is missing is read as an empty name.
     pub fn next(self, buf: &mut [u8]) -> Word
         ensures { λ r. ⌜ Counts (r .len) (now (buf .exit)) ⌝ }
         ensures { λ r. ⌜ r .kind ≡ kindAt (self .«is_ended») (take (r .len) (now (buf .exit))) ⌝ }
+        ensures { λ r. ⌜ r .words .at ≡ (self .at + 1) % 2 ^ 64 ⌝ }
         ensures { λ r. ⌜ r .words .«is_ended» ≡ (self .«is_ended» || sameWord (take (r .len) (now (buf .exit))) (ascii "--")) ⌝ }
     {
         let len = os::arg(self.at, buf);
@@ -104,9 +106,11 @@ impl Words {
         Word { kind, len, words }
     }
 
-    // The next word as it stands, as where an option takes a value.
+    // The next word as it stands, as where an option takes a value. One that is missing is read as an empty one.
     pub fn value(self, buf: &mut [u8]) -> Word
         ensures { λ r. ⌜ Counts (r .len) (now (buf .exit)) ⌝ }
+        ensures { λ r. ⌜ r .kind ≡ Kind.Name ⌝ }
+        ensures { λ r. ⌜ (r .words .at ≡ (self .at + 1) % 2 ^ 64) × (r .words .«is_ended» ≡ self .«is_ended») ⌝ }
     {
         let len = os::arg(self.at, buf);
         let words = Words {

@@ -38,7 +38,7 @@ returns : tie.Need-returns
 unfolding ascii
 returns c =
     let k = c .before .before .before .before .before in
-    (k .before .before .before .before .arg .ensures, (k .kind-at .ensures, rw (c .before .is-word .ensures)))
+    (k .before .before .before .before .arg .ensures, (k .kind-at .ensures, (search needs, rw (c .before .is-word .ensures))))
 
 pub next-spec : {M : Type 1} → statement M
 next-spec =
