@@ -14,13 +14,16 @@ pub struct Input {
     fd: i32,
     format: Format,
     // So many bytes stand at the block's begin.
-    held: usize,
+    pub held: usize,
     pub is_over: bool,
 }
 
 // Reads into a part of the block, and answers as a read does; there are no bytes where the part is none.
 fn read_between(fd: i32, block: &mut [u8], from: usize, to: usize, what: &[u8]) -> isize {
-    if (to <= from) | (block.len() < to) {
+    if to <= from {
+        return 0;
+    }
+    if block.len() < to {
         return 0;
     }
     streams::read_or_tell(fd, &mut block[from..to], what)
@@ -28,12 +31,32 @@ fn read_between(fd: i32, block: &mut [u8], from: usize, to: usize, what: &[u8]) 
 
 // Moves the bytes between these places to the front.
 fn move_to_front(block: &mut [u8], from: usize, to: usize) {
-    if (to <= from) | (block.len() < to) {
+    if to <= from {
+        return;
+    }
+    if block.len() < to {
         return;
     }
     for i in 0..to - from {
         block[i] = block[from + i];
     }
+}
+
+// The first n samples, or all where there are fewer.
+fn front_parts(parts: &[f32], n: usize) -> &[f32] {
+    let count = least(n, parts.len() / 2);
+    &parts[..2 * count]
+}
+
+// The same of all parts, since a part of an array behind a reference cannot be lent.
+pub(crate) fn first_samples(parts: &Parts, n: usize) -> &[f32] {
+    front_parts(parts, n)
+}
+
+// The samples behind the first n.
+pub(crate) fn samples_from(parts: &[f32], n: usize) -> &[f32] {
+    let count = least(n, parts.len() / 2);
+    &parts[2 * count..]
 }
 
 // Sets the parts between these places to zero.

@@ -1,132 +1,80 @@
-// Receives a downlink: raw samples (`.cf32`) from standard input, a line for each slot to standard output.
-mod downlink;
+// Receives a downlink, and an uplink beside it: raw samples in, a line for each slot to standard output.
+mod alone;
+mod both;
+mod input;
+mod link;
 mod options;
+mod report;
 mod tally;
 
-use downlink::Downlink;
-use libc::STDERR_FILENO;
-use libc::STDIN_FILENO;
-use libc::STDOUT_FILENO;
 use options::Options;
-ghost use Prim.Native.Nat.{_≤_};
 
-type Block = [u8; 65536];
-
-type Parts = [f32; 16384];
+// Says what is wrong with the command line.
+fn refuse(wrong: u8) {
+    match wrong {
+        options::UNKNOWN_FORMAT => program::refuse(
+            b"tetra_rx",
+            b"--format takes cf32, cs16 or cu8",
+        ),
+        options::TWO_NAMES => program::refuse(b"tetra_rx", b"more than one file name"),
+        options::NO_VALUE => program::refuse(b"tetra_rx", b"the last option takes a value"),
+        _ => program::refuse_option(b"tetra_rx"),
+    }
+}
 
 fn help() {
-    io::write_all(
-        STDOUT_FILENO,
-        b"usage: tetra_rx [--quiet] [--no-bits] <samples.cf32
+    program::help(
+        b"tetra_rx",
+        b"usage: tetra_rx [OPTION].. [FILE]
 
 Receives a TETRA downlink and prints a line for each slot:
   slot=17 type=sync errors=0 bits=..
 The slots are numbered from 1 at each lock. A type is sync, normal1, normal2 or
 none; errors are the wrong bits of the training sequence, 100 where there is
-none; bits are the 510 of the burst.
+none; bits are those of the burst, where there is one.
 
-The input is raw samples, 72,000 a second: f32 re and im in turn, lowest byte
-first, the carrier at 0 Hz, no part beyond 1024.
+The file, or standard input, has raw samples, 72,000 a second, I and Q in turn,
+the carrier at 0 Hz, no part beyond 1024. A sample that is no number is lost: it
+is heard as zero, and told. So a sender of samples writes NaN for lost ones.
 
-  --quiet     no word of lock and loss, and no summary
-  --no-bits   lines without the bits
+  --uplink FILE   receive the uplink too, from a file or named pipe with the same
+                  format and counters; lines say link=down or link=up, and those
+                  of the uplink tell the bursts of half slots as half1_, half2_
+  --format F      cf32 (32-bit floats, the default), cs16 or cu8
+  --json          each line an object of JSON
+  --no-bits       lines without bits
+  --progress      a line on standard error that is written anew each second of
+                  samples; so on a terminal
+  --quiet         no progress, no word of lock and loss, and no summary
+  --help          this text
+  --version       the version
 ",
     );
 }
 
-// The samples that the block's first bytes hold are decoded. Tells how many parts they have.
-fn decode(block: &Block, len: usize, parts: &mut Parts) -> usize {
-    iq_format::decode(iq_format::Format::Cf32, text::front(block, len), parts)
-}
-
-fn front_parts(parts: &[f32], len: usize) -> &[f32] {
-    if len < parts.len() {
-        &parts[..len]
-    } else {
-        parts
-    }
-}
-
-// The same of all parts, since a part of an array behind a reference cannot be lent.
-fn decoded(parts: &Parts, len: usize) -> &[f32] {
-    front_parts(parts, len)
-}
-
-// Reads on behind the bytes that are held, and tells how many there are then: no more at the end of the input.
-fn read_on(block: &mut [u8], held: usize) -> usize {
-    if block.len() <= held {
-        return held;
-    }
-    let got = libc::read(STDIN_FILENO, &mut block[held..]);
-    if got < 0 {
-        io::write_all(STDERR_FILENO, b"tetra_rx: the input cannot be read\n");
-    }
-    held + io::count(got, &block[held..])
-}
-
-// The same for the whole block, since a part of an array behind a reference cannot be lent.
-fn fill(block: &mut Block, held: usize) -> usize {
-    read_on(block, held)
-}
-
-fn at_most_65536(n: usize) -> usize
-    ensures { λ r. ⌜ r ≤ 65536 ⌝ }
-{
-    if n < 65536 { n } else { 65536 }
-}
-
-// Moves the bytes of a sample that is not yet whole to the front, and tells how many there are.
-fn keep_rest(block: &mut Block, len: usize) -> usize {
-    let end = at_most_65536(len);
-    let rest = end % 8;
-    for i in 0..rest {
-        block[i] = block[end - rest + i];
-    }
-    rest
-}
-
-// What is told at the end: the bytes of half a sample, and the summary.
-fn finish(downlink: Downlink, held: usize, options: Options) {
-    if held > 0 {
-        tally::tell_rest(held);
-    }
-    if !options.is_quiet {
-        downlink.summary();
-    }
-}
-
-// A proved loop has to end, and nothing says that an input does: it counts down from a number that no run uses up.
 fn receive(options: Options) {
-    let mut block = [0u8; 65536];
-    let mut parts = [0.0f32; 16384];
-    let mut re = [0.0f32; 2048];
-    let mut im = [0.0f32; 2048];
-    let mut abs = [0.0f32; 2048];
-    let mut downlink = Downlink::new();
-    let mut held: usize = 0;
-    let mut turns = u64::MAX;
-    while turns > 0 && downlink.tally.is_open {
-        turns -= 1;
-        let len = fill(&mut block, held);
-        if len == held {
-            break;
-        }
-        let n = decode(&block, len, &mut parts);
-        downlink = downlink.hear(&mut re, &mut im, &mut abs, decoded(&parts, n), options);
-        held = keep_rest(&mut block, len);
+    let fd = program::open(b"tetra_rx", options.downlink);
+    if fd < 0 {
+        return;
     }
-    finish(downlink, held, options);
+    if options.uplink == 0 {
+        alone::receive(fd, options);
+        return;
+    }
+    let up_fd = program::open(b"tetra_rx", options.uplink);
+    if up_fd >= 0 {
+        both::receive(fd, up_fd, options);
+    }
 }
 
 fn main() {
     let options = options::read();
     if options.is_help {
         help();
-    } else if options.is_bad {
-        io::write_all(
-            STDERR_FILENO,
-            b"tetra_rx: unknown option, see tetra_rx --help\n",
-        );
+    } else if options.is_version {
+        program::version(b"tetra_rx");
+    } else if options.wrong != options::FINE {
+        refuse(options.wrong);
     } else {
         receive(options);
     }

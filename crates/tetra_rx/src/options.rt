@@ -41,7 +41,7 @@ pub struct Options {
 }
 
 // The options behind a word, and the words that are left.
-struct Read {
+struct Behind {
     options: Options,
     words: Words,
 }
@@ -157,21 +157,21 @@ impl Options {
         }
     }
 
-    fn read(self, words: Words) -> Read {
+    fn with_next(self, words: Words) -> Behind {
         let mut buf = [0u8; 4096];
         let at = words.at;
         if self.value_of == NOTHING {
             let word = words.next(&mut buf);
             let left = word.words;
             let kind = word.kind;
-            Read {
+            Behind {
                 options: self.with_word(kind, &buf[..word.len], at),
                 words: left,
             }
         } else {
             let word = words.value(&mut buf);
             let left = word.words;
-            Read {
+            Behind {
                 options: self.with_value(&buf[..word.len], at),
                 words: left,
             }
@@ -183,7 +183,7 @@ pub(crate) fn read() -> Options {
     let mut options = Options::new();
     let mut words = Words::new();
     for _ in 1..os::arg_count() {
-        let read = options.read(words);
+        let read = options.with_next(words);
         options = read.options;
         words = read.words;
     }

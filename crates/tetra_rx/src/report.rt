@@ -10,7 +10,11 @@ pub(crate) fn begun(is_up: bool, is_progress: bool) -> Text {
     } else {
         start.append(b"tetra_rx: ")
     };
-    if is_up { line.append(b"uplink: ") } else { line }
+    if is_up {
+        line.append(b"uplink: ")
+    } else {
+        line
+    }
 }
 
 // Words and a number.
@@ -21,7 +25,11 @@ pub(crate) fn with_number(text: Text, words: &[u8], n: u64) -> Text {
 // So many of something, one or several.
 pub(crate) fn with_count(text: Text, n: u64, what: &[u8]) -> Text {
     let counted = text.decimal(n).append(what);
-    if n == 1 { counted } else { counted.append(b"s") }
+    if n == 1 {
+        counted
+    } else {
+        counted.append(b"s")
+    }
 }
 
 pub(crate) fn with_mode(text: Text, mode: u8) -> Text {

@@ -2,6 +2,8 @@
 use crate::link::Link;
 use crate::options::Options;
 use crate::report;
+use dsp_types::COUNTERS;
+use dsp_types::SampleCount;
 use libc::STDERR_FILENO;
 use libc::STDOUT_FILENO;
 use text::Text;
@@ -12,6 +14,11 @@ const SECOND: u64 = 72000;
 const MINUTE: u64 = 60 * SECOND;
 
 const SEARCHING: u8 = 1;
+
+// A counter as the receiver takes it.
+pub(crate) fn count_of(counter: u64) -> SampleCount {
+    SampleCount((counter % 0x8000_0000_0000_0000) as i64)
+}
 
 pub struct Tally {
     // The counter of the next sample.
@@ -27,6 +34,7 @@ pub struct Tally {
     // When the progress line is written next.
     next: u64,
     down: Link,
+    has_uplink: bool,
     up: Link,
 }
 
@@ -43,6 +51,7 @@ impl Tally {
             is_advised: false,
             next: SECOND,
             down: Link::new(false),
+            has_uplink: options.uplink > 0,
             up: Link::new(true),
         }
     }
@@ -83,13 +92,11 @@ impl Tally {
     pub(crate) fn refuse(self, is_up: bool, counter: u64) -> Tally {
         let mut next = self;
         if is_up {
-            next.up = self
-                .up
+            next.up = self.up
                 .told_by(counter, self.is_progress)
                 .with_refused(counter);
         } else {
-            next.down = self
-                .down
+            next.down = self.down
                 .told_by(counter, self.is_progress)
                 .with_refused(counter);
         }
@@ -116,10 +123,12 @@ impl Tally {
         if !self.is_progress | (self.counter < self.next) {
             return self;
         }
-        let samples =
-            report::with_count(report::begun(false, true), self.counter, b" sample").append(b", ");
-        let level = self
-            .down
+        let samples = report::with_count(
+            report::begun(false, true),
+            self.counter,
+            b" sample",
+        ).append(b", ");
+        let level = self.down
             .summary(samples)
             .append(b", level -")
             .decimal(iq_format::level(parts) as u64);
@@ -139,11 +148,14 @@ impl Tally {
         next.counter = std::num::wrapping_add_u64(self.counter, n as u64);
         next.down = self.down.told_by(next.counter, self.is_progress);
         next.up = self.up.told_by(next.counter, self.is_progress);
-        next.advised().progress(parts)
+        next.advised().progress(parts).closed_at_end()
     }
 
     // There are no more counters.
-    pub(crate) fn close(self) -> Tally {
+    fn closed_at_end(self) -> Tally {
+        if self.counter < COUNTERS {
+            return self;
+        }
         report::tell(
             report::begun(false, self.is_progress),
             b"no more samples, the counter is at its end\n",
@@ -153,26 +165,44 @@ impl Tally {
         next
     }
 
+    // How many of n samples have counters.
+    pub(crate) fn room(self, n: usize) -> usize {
+        if COUNTERS <= self.counter {
+            return 0;
+        }
+        let left = COUNTERS - self.counter;
+        if left < n as u64 { left as usize } else { n }
+    }
+
+    // The uplink is at its end, with so many bytes of half a sample.
+    pub(crate) fn tell_uplink_end(self, rest: usize) {
+        let line = report::with_number(
+            report::begun(true, self.is_progress),
+            b"ends at sample ",
+            self.counter,
+        );
+        let bytes = report::with_number(line, b", ", rest as u64);
+        report::tell(bytes, b" bytes left over; zeros are heard behind it\n");
+    }
+
     // Tells what is left: refused samples, the bytes of half a sample, and the summary.
-    pub(crate) fn finish(self, rest: usize, has_uplink: bool) {
+    pub(crate) fn finish(self, rest: usize) {
         self.down.told(self.is_progress);
         self.up.told(self.is_progress);
         if rest > 0 {
-            report::tell(
-                report::with_number(
-                    report::begun(false, self.is_progress),
-                    b"the last ",
-                    rest as u64,
-                ),
-                b" bytes are no whole sample\n",
+            let line = report::with_number(
+                report::begun(false, self.is_progress),
+                b"the last ",
+                rest as u64,
             );
+            report::tell(line, b" bytes are no whole sample\n");
         }
         if !self.is_quiet {
-            self.summary(has_uplink);
+            self.summary();
         }
     }
 
-    fn summary(self, has_uplink: bool) {
+    fn summary(self) {
         let samples = report::with_count(
             report::begun(false, self.is_progress),
             self.counter,
@@ -180,7 +210,7 @@ impl Tally {
         );
         let slots = self.down.summary(samples.append(b", "));
         report::tell(report::with_mode(slots.append(b", "), self.mode), b"\n");
-        if has_uplink {
+        if self.has_uplink {
             report::tell(self.up.summary(report::begun(true, false)), b"\n");
         }
     }
