@@ -96,5 +96,5 @@ pub(crate) fn receive(fd: i32, options: Options) {
         downlink = downlink.hear(&mut re, &mut im, &mut abs, first_samples(&parts, n), style);
         input = input.without(&mut block, n);
     }
-    downlink.tally.finish(input.held);
+    downlink.tally.finish(input.rest(), 0);
 }

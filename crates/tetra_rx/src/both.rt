@@ -141,10 +141,10 @@ pub(crate) fn receive(fd: i32, up_fd: i32, options: Options) {
     while turns > 0 && both.tally.is_open && !down.is_over {
         turns -= 1;
         down = down.fill(&mut block, b"tetra_rx: the input cannot be read");
-        let was_over = up.is_over;
+        let was_over = up.is_over | (down.samples() == 0);
         up = up.fill(&mut up_block, b"tetra_rx: the uplink cannot be read");
         if up.is_over & !was_over {
-            both.tally.tell_uplink_end(up.held);
+            both.tally.tell_uplink_end();
         }
         let n = both.tally.room(common(down, up));
         down.decode(&block, n, &mut parts);
@@ -164,5 +164,5 @@ pub(crate) fn receive(fd: i32, up_fd: i32, options: Options) {
         down = down.without(&mut block, n);
         up = up.without(&mut up_block, n);
     }
-    both.tally.finish(down.held);
+    both.tally.finish(down.rest(), up.rest());
 }

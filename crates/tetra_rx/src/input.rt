@@ -14,7 +14,7 @@ pub struct Input {
     fd: i32,
     format: Format,
     // So many bytes stand at the block's begin.
-    pub held: usize,
+    held: usize,
     pub is_over: bool,
 }
 
@@ -89,6 +89,11 @@ impl Input {
     // How many whole samples are held.
     pub(crate) fn samples(self) -> usize {
         self.held / self.sample_bytes()
+    }
+
+    // How many bytes of half a sample are held.
+    pub(crate) fn rest(self) -> usize {
+        self.held % self.sample_bytes()
     }
 
     // Reads on where no whole sample is held.

@@ -174,29 +174,34 @@ impl Tally {
         if left < n as u64 { left as usize } else { n }
     }
 
-    // The uplink is at its end, with so many bytes of half a sample.
-    pub(crate) fn tell_uplink_end(self, rest: usize) {
-        let line = report::with_number(
-            report::begun(true, self.is_progress),
-            b"ends at sample ",
-            self.counter,
-        );
-        let bytes = report::with_number(line, b", ", rest as u64);
-        report::tell(bytes, b" bytes left over; zeros are heard behind it\n");
-    }
-
-    // Tells what is left: refused samples, the bytes of half a sample, and the summary.
-    pub(crate) fn finish(self, rest: usize) {
-        self.down.told(self.is_progress);
-        self.up.told(self.is_progress);
+    // The bytes of half a sample are told.
+    fn tell_rest(self, is_up: bool, rest: usize) {
         if rest > 0 {
             let line = report::with_number(
-                report::begun(false, self.is_progress),
+                report::begun(is_up, self.is_progress),
                 b"the last ",
                 rest as u64,
             );
             report::tell(line, b" bytes are no whole sample\n");
         }
+    }
+
+    // The uplink is at its end before the downlink.
+    pub(crate) fn tell_uplink_end(self) {
+        let line = report::with_number(
+            report::begun(true, self.is_progress),
+            b"ends at sample ",
+            self.counter,
+        );
+        report::tell(line, b", zeros are heard behind it\n");
+    }
+
+    // Tells what is left: refused samples, the bytes of half a sample, and the summary.
+    pub(crate) fn finish(self, rest: usize, up_rest: usize) {
+        self.down.told(self.is_progress);
+        self.up.told(self.is_progress);
+        self.tell_rest(false, rest);
+        self.tell_rest(true, up_rest);
         if !self.is_quiet {
             self.summary();
         }
