@@ -1,4 +1,5 @@
 # make demo        the main job, on a shipped example: bursts sent, received and printed
+# make demo-uplink the same with an uplink beside the downlink
 # make build       every program and the library for C
 # make install     programs, library, header, pkg-config file and man pages, to DESTDIR/PREFIX (/usr/local)
 # make uninstall   takes away what make install put there
@@ -19,11 +20,16 @@ MAN = $(DESTDIR)$(PREFIX)/share/man/man1
 # gcc names a library that it finds by its path.
 BENCHED = bench $(if $(filter /%,$(shell gcc -print-file-name=libliquid.so)),liquid)
 
-.PHONY: demo build install uninstall test compare bench limits
+.PHONY: demo demo-uplink build install uninstall test compare bench limits
 
 demo:
 	@scripts/prove tetra_tx tetra_rx >&2
 	@target/bin/tetra_tx <examples/bursts.txt | target/bin/tetra_rx --no-bits
+
+demo-uplink:
+	@scripts/prove tetra_tx tetra_rx >&2
+	@up=$$(mktemp) && trap 'rm -f "$$up"' EXIT && target/bin/tetra_tx examples/uplink.txt >"$$up" && \
+		target/bin/tetra_tx examples/bursts.txt | target/bin/tetra_rx --no-bits --uplink "$$up"
 
 build:
 	@scripts/prove $(PROGRAMS) libmodem.a
