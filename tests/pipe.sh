@@ -227,7 +227,7 @@ wrote "a follower's first window" "$work/want"
 # An object of JSON a line: its names and values in their order are those of the plain line, numbers are numbers.
 json='
 import json, sys
-for line in sys.stdin:
+for line in sys.stdin.read().splitlines():
     fields = json.loads(line)
     numbers = [name for name in fields if isinstance(fields[name], int)]
     assert all(name == "slot" or name.endswith("errors") for name in numbers), line
@@ -251,7 +251,7 @@ as_json() {
     shift
     "$rx" --quiet "$@" >"$work/want"
     "$rx" --quiet --json "$@" >"$work/json"
-    python3 -c "$json" <"$work/json" >"$work/out" 2>"$work/err" || fail "$name, no JSON: $(tail -n 1 "$work/err" | cut -c 1-200)"
+    python3 -c "$json" <"$work/json" >"$work/out" 2>"$work/err" || fail "$name, not as it should be: $(tail -n 1 "$work/err" | cut -c 1-200)"
     wrote "$name" "$work/want"
 }
 if command -v python3 >/dev/null; then
