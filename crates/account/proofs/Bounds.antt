@@ -142,10 +142,6 @@ reach-dl : (m : Mode) (k : ℕ) → m ≡ Dl → reach m k ≡ k
 unfolding reach
 reach-dl m k e = rw e
 
-reach-search : (m : Mode) (k : ℕ) → m ≡ DlUnsynchronized → reach m k ≡ k
-unfolding reach
-reach-search m k e = rw e
-
 spare-dl : (m : Mode) → m ≡ Dl → spare m ≡ 1
 unfolding spare
 spare-dl m e = rw e

@@ -1,4 +1,4 @@
--- How a listener and the rings of its past stand for a signal: the one place that knows of rings and indices. Definitions only.
+-- How a listener and the rings of its past stand for a signal: above history, timing and slot_bits the one place that knows of rings. Definitions only.
 use mathlib.Core.Path.{_≡_}
 use Prim.Native.Nat.{ℕ, _*_, _-_}
 use mathlib.Core.List.{List, _++_}
