@@ -97,9 +97,8 @@ ring-later z n buf at x w h zero k =
 ring-later z n buf at x w h (suc d) k =
     rw (place-older n at d h k) (getD-set-other buf (next n at) (placeOf n at d) x z (place-apart n at d h k))
 
--- ---- two rings that hold the parts of samples, with one index
+-- ---- rings of zeros
 
--- rings of zeros
 pub ring-zeros : (n : ℕ) → 0 < n → (d : ℕ) → ringAt nan n (replicate n zeroF) 0 d ≡ zeroF
 unfolding ringAt
 ring-zeros n h d = getD-replicate n (placeOf n 0 d) zeroF nan (place-lt n 0 d h)

@@ -43,13 +43,13 @@ burst normal1 = normalBurst 1 (replicate 216 0) (replicate 30 0) (replicate 216 
 burst normal2 = normalBurst 2 (replicate 216 0) (replicate 30 0) (replicate 216 0)
 
 unfoldable pub computed : Figure → Value
-computed (window kind first sum bits) = adjusted (getD (burst kind .sums) 0 (pos 0)) (slice 12 14 (burst kind .bits))
-computed (window kind last sum bits) = adjusted (getD (burst kind .sums) 1 (pos 0)) (slice 498 500 (burst kind .bits))
+computed (window sent first sum bits) = adjusted (getD (burst sent .sums) 0 (pos 0)) (slice 12 14 (burst sent .bits))
+computed (window sent last sum bits) = adjusted (getD (burst sent .sums) 1 (pos 0)) (slice 498 500 (burst sent .bits))
 computed (magnitude re im r) = float (magnitudeOf re im)
 computed (timing i q r) = float (quarterTurns i q)
 
 unfoldable pub stated : Figure → Value
-stated (window kind w sum bits) = adjusted sum bits
+stated (window sent w sum bits) = adjusted sum bits
 stated (magnitude re im r) = float r
 stated (timing i q r) = float r
 

@@ -15,20 +15,20 @@ use Rattle.magnitude.specs.Magnitude.{magnitudeOf, magnitudesIn}
 abbrev pub Done : List Float → List Float → List Float → ℕ → Type 0
 Done re im out k = getD out k nan ≡ magnitudeOf (getD re k nan) (getD im k nan)
 
-abbrev pub Told : List Float → List Float → List Float → ℕ → Type 0
-Told re im out k = lt (getD out k nan) zeroF ≡ false → Done re im out k
+abbrev pub Trusted : List Float → List Float → List Float → ℕ → Type 0
+Trusted re im out k = lt (getD out k nan) zeroF ≡ false → Done re im out k
 
 -- of the first n values of the buffer `old` i are told, or done and the others told; behind them it is as it was
 pub record Guessed (re im old out : List Float) (n i : ℕ) : Type 0 where
   pub long : length out ≡ length old
   pub rest : drop n out ≡ drop n old
-  pub told : (k : ℕ) → k < i → Told re im out k
+  pub told : (k : ℕ) → k < i → Trusted re im out k
 
 pub record Mended (re im old out : List Float) (n i : ℕ) : Type 0 where
   pub long : length out ≡ length old
   pub rest : drop n out ≡ drop n old
   pub done : (k : ℕ) → k < i → Done re im out k
-  pub told : (k : ℕ) → i ≤ k → k < n → Told re im out k
+  pub told : (k : ℕ) → i ≤ k → k < n → Trusted re im out k
 
 -- ---- a store at i
 module _ (P : ℕ → Float → Type 0) (out : List Float) (i : ℕ) (v : Float) where

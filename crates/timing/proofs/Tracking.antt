@@ -14,7 +14,7 @@ use Rattle.dsp_types.specs.Samples.{zeroF}
 use Rattle.timing.specs.Floats.{twoF, tenth}
 use Rattle.timing.specs.Document.{InTurn}
 use Rattle.timing.specs.Tracking.{averagedOf, late, early, loweredOf, settledOf, movedOf}
-use Rattle.timing.proofs.Within.{Bounded, Holds, weaken, apart-bounded, add-bounded, sub-bounded, mul-bounded}
+use Rattle.timing.proofs.Sizes.{Bounded, Holds, weaken, apart-bounded, add-bounded, sub-bounded, mul-bounded}
 use Rattle.timing.proofs.Parts.{under-four}
 
 holds-2 : Holds 2 1
