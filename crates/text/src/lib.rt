@@ -39,7 +39,7 @@ pub fn trimmed(bytes: &[u8], c: u8) -> &[u8]
 }
 
 // The character of a bit.
-pub fn character_of(bit: u8) -> u8
+fn character_of(bit: u8) -> u8
     ensures { λ r. ⌜ r ≡ characterOf bit ⌝ }
 {
     if bit == 0 { b'0' } else { b'1' }
