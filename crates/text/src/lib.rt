@@ -97,11 +97,11 @@ impl Text {
     }
 
     // With a burst type's name behind it.
-    pub fn type_name(self, kind: u32) -> Text
-        ensures { λ r. ⌜ textOf r ≡ cut (textOf self ++ typeName kind) ⌝ }
+    pub fn type_name(self, burst_type: u32) -> Text
+        ensures { λ r. ⌜ textOf r ≡ cut (textOf self ++ typeName «burst_type») ⌝ }
         ensures { λ r. ⌜ (r .len ≤ 2048) × (r .len ≡ length (textOf r)) ⌝ }
     {
-        match kind {
+        match burst_type {
             1 => self.append(b"normal1"),
             2 => self.append(b"normal2"),
             3 => self.append(b"extended"),
