@@ -24,8 +24,8 @@ use Rattle.account.specs.Tracked.{Tracked, signalHeard, tracked, turn, a
 use Rattle.account.specs.Account
 use Rattle.account.specs.Account.{Waiting, nothing, waits, changed, lastHanded, newer, sized, seenIf, seen, answered, toldTake, lockedMode, accountOf, heard, ifAccepted, nextCounter, Counted, expected, expectedAll}
 use Rattle.account.proofs.Times.{none-missing}
-use Rattle.account.proofs.Simulation.{Timed, searching, fresh, steady, Waits, Stepped, stepped, over}
-use Rattle.account.proofs.Bounds.{Within, Accepted, accepted-at, valid-count, valid-same, slot-same, sample-within, taken-within, new-within}
+use Rattle.account.proofs.Simulation.{InStep, searching, fresh, steady, Waits, Stepped, stepped, over}
+use Rattle.account.proofs.Bounds.{InBounds, Accepted, accepted-at, valid-count, valid-same, slot-same, sample-within, taken-within, new-within}
 
 -- ---- windows
 pub newer-cons : (k : ℕ) (w : Window) (ws : List Window) → k ≤ length ws → newer k (w ∷ ws) ≡ w ∷ newer k ws
@@ -50,11 +50,11 @@ pub record Leaves (r : Receiver) (c : Call) (r′ : Receiver) (w : List Window) 
   pub windows : outcome r c .windows ≡ w
   pub answer : outcome r c .reply ≡ a
 
-sample-refuses : (r : Receiver) (x : ComplexSample) (c : ℤ) (k : ℕ) → Within r → sampleRefusal (r .next) x c ≡ suc k → Leaves r (sample x c) r [] (refused (suc k))
+sample-refuses : (r : Receiver) (x : ComplexSample) (c : ℤ) (k : ℕ) → InBounds r → sampleRefusal (r .next) x c ≡ suc k → Leaves r (sample x c) r [] (refused (suc k))
 unfolding outcome sampleOutcome unless
 sample-refuses r x c k w e = let v = valid-count r w in record { after = rw (v, e); windows = rw (v, e); answer = rw (v, e) }
 
-sample-accepts : (r : Receiver) (x : ComplexSample) (c : ℤ) (n : ℕ) → Within r → sampleRefusal (r .next) x c ≡ 0 → r .next ≡ pos n → c ≡ pos n
+sample-accepts : (r : Receiver) (x : ComplexSample) (c : ℤ) (n : ℕ) → InBounds r → sampleRefusal (r .next) x c ≡ 0 → r .next ≡ pos n → c ≡ pos n
     → Leaves r (sample x c) (withNext (processSample r x (pos n)) (pos n +ℤ pos 1)) (windowOf r x (pos n) ++ []) done
 unfolding outcome sampleOutcome unless sampled accept acceptWindows R.zerosBefore feedZeros zerosWindows
 sample-accepts r x c n w e p q =
@@ -81,12 +81,12 @@ take-refusal s a b available = go (wrongLength 510 s || (wrongLength 254 a || wr
     go true = refl
     go false = refl
 
-take-outcome : (r : Receiver) (s a b : List ℕ) (d : Bool) → sized s a b ≡ d → Within r
+take-outcome : (r : Receiver) (s a b : List ℕ) (d : Bool) → sized s a b ≡ d → InBounds r
     → takeOutcome r s a b ≡ unless (cond d (cond (r .waits) 0 11) 3) r (s ∷ a ∷ b ∷ []) (taken r (r .slot))
 unfolding takeOutcome
 take-outcome r s a b d e w = rw (take-refusal s a b (r .waits), e, slot-same r w)
 
-pub take-leaves : (r : Receiver) (s a b : List ℕ) (d : Bool) (v : Waiting) → sized s a b ≡ d → Within r → Waits (r .waits) (r .slot) v
+pub take-leaves : (r : Receiver) (s a b : List ℕ) (d : Bool) (v : Waiting) → sized s a b ≡ d → InBounds r → Waits (r .waits) (r .slot) v
     → Leaves r (CallList.take s a b) (untaken d v r) [] (toldTake d v)
 unfolding outcome unless taken untaken toldTake
 take-leaves r s a b false v e i w =
@@ -103,11 +103,11 @@ take-leaves r s a b true (waits h) e i w =
 
 -- ---- the invariant of a list of calls
 pub record Agree (cs : List Call) : Type 0 where
-  pub within : Within (after cs)
+  pub within : InBounds (after cs)
   pub next : after cs .next ≡ nextCounter cs
   pub counted : nextCounter cs ≡ pos (length (heard cs))
   pub signal : after cs .signal ≡ signalHeard (heard cs)
-  pub timed : Timed (after cs .mode) (after cs .clock) (after cs .lock) (length (heard cs)) (tracked (heard cs))
+  pub timed : InStep (after cs .mode) (after cs .clock) (after cs .lock) (length (heard cs)) (tracked (heard cs))
   pub waiting : Waits (after cs .waits) (after cs .slot) (Account.waiting cs)
   pub windows : closed cs ≡ accountOf cs .windows
   pub seen : Account.seen cs ≤ length (accountOf cs .windows)
@@ -128,7 +128,7 @@ agree-new = record {
 }
 
 -- the mode is the account's
-pub mode-is : (m : Mode) (c : Clock) (l : Lock) (n : ℕ) (t : Tracked) → Timed m c l n t → m ≡ lockedMode (t .account .locked)
+pub mode-is : (m : Mode) (c : Clock) (l : Lock) (n : ℕ) (t : Tracked) → InStep m c l n t → m ≡ lockedMode (t .account .locked)
 unfolding lockedMode
 mode-is m c l n t (searching s) = s .mode ∙ rw (s .unlocked)
 mode-is m c l n t (fresh k s) = k .mode ∙ rw (k .locked)
@@ -150,8 +150,8 @@ module _ (c : Call) (cs : List Call) {r′ : Receiver} {w : List Window} {a : Re
 
   -- a call that leaves the account as it is, and the receiver's timing
   carry : Agree cs → heard (c ∷ cs) ≡ heard cs → nextCounter (c ∷ cs) ≡ nextCounter cs → w ≡ []
-      → Within r′ → r′ .next ≡ after cs .next → r′ .signal ≡ after cs .signal
-      → Timed (r′ .mode) (r′ .clock) (r′ .lock) (length (heard cs)) (tracked (heard cs))
+      → InBounds r′ → r′ .next ≡ after cs .next → r′ .signal ≡ after cs .signal
+      → InStep (r′ .mode) (r′ .clock) (r′ .lock) (length (heard cs)) (tracked (heard cs))
       → Waits (r′ .waits) (r′ .slot) (lastHanded (newer (Account.seen (c ∷ cs)) (accountOf cs .windows)))
       → Account.seen (c ∷ cs) ≤ length (accountOf cs .windows)
       → a ≡ expected c cs
@@ -231,7 +231,7 @@ pub seen-sample : (x : ComplexSample) (c : ℤ) (cs : List Call) → Account.see
 unfolding Account.seen
 seen-sample x c cs = refl
 
-after-within : (x : ComplexSample) (c : ℤ) (cs : List Call) → Within (after cs) → Within (after (sample x c ∷ cs))
+after-within : (x : ComplexSample) (c : ℤ) (cs : List Call) → InBounds (after cs) → InBounds (after (sample x c ∷ cs))
 unfolding after outcome
 after-within x c cs w = sample-within (after cs) x c w
 
@@ -262,7 +262,7 @@ accepts x c cs r′ w g o z q st =
       answered = answered-is (sample x c) cs o (expected-done x c cs z) (g .answered);
     }
   where
-    within-after : Within (after (sample x c ∷ cs))
+    within-after : InBounds (after (sample x c ∷ cs))
     within-after = after-within x c cs (g .within)
 
 agree-accepted : (x : ComplexSample) (c : ℤ) (cs : List Call) → sampleRefusal (nextCounter cs) x c ≡ 0 → c ≡ pos (length (heard cs)) → Agree cs → Agree (sample x c ∷ cs)

@@ -30,7 +30,7 @@ use Rattle.rx_slot.specs.Slots.{noSlot, validSlot}
 use Rattle.slot_receiver.specs.Calls.{Outcome, unless, sampleRefusal, sampled, sampleOutcome, takeRefusal, taken, takeOutcome, followRefusal, slotWhen, following, followed, followOutcome}
 use Rattle.account.specs.Reachable as Reachable
 use Rattle.account.specs.Reachable.{Reachable, anew, told}
-use Rattle.account.proofs.Laws.{Placed, placed}
+use Rattle.account.proofs.Laws.{SyncPlace, sync-place}
 use Rattle.account.proofs.Times.{ready-parts, found-parts}
 use Rattle.account.proofs.Views.{Views, none-valid, valid-slot}
 use Rattle.timing.specs.Tracking.{movedOf}
@@ -142,10 +142,6 @@ reach-dl : (m : Mode) (k : ℕ) → m ≡ Dl → reach m k ≡ k
 unfolding reach
 reach-dl m k e = rw e
 
-reach-search : (m : Mode) (k : ℕ) → m ≡ DlUnsynchronized → reach m k ≡ k
-unfolding reach
-reach-search m k e = rw e
-
 spare-dl : (m : Mode) → m ≡ Dl → spare m ≡ 1
 unfolding spare
 spare-dl m e = rw e
@@ -188,7 +184,7 @@ next-bounded r n few b = record { timely = timely-add (r .mode) (r .clock) (pos 
 
 -- ---- a window's bits
 -- a find sets the reference time from the counter
-found-bounded : (r : Receiver) (k place : ℕ) → k < counters → Placed place → Bounded r k → up (r .clock .slotReadyTime) + 16 ≡ k + dn (r .clock .slotReadyTime) → Bounded (R.found r place) k
+found-bounded : (r : Receiver) (k place : ℕ) → k < counters → SyncPlace place → Bounded r k → up (r .clock .slotReadyTime) + 16 ≡ k + dn (r .clock .slotReadyTime) → Bounded (R.found r place) k
 unfolding R.found withMode withClock withLock withSlot setSlot reach spare
 found-bounded r k place few p b at =
     let z : ℤ = R.found r place .clock .referenceTime in
@@ -230,7 +226,7 @@ search-bounded : (r : Receiver) (k : ℕ) (d : Bool) → leb (findSync (windowBi
 unfolding R.searchWindow R.notFoundYet withSlot R.found withMode
 search-bounded r k true e few b at =
     record {
-      bounded = found-bounded r k (findSync (windowBits (r .signal)) .pos) few (placed (r .signal)) b at;
+      bounded = found-bounded r k (findSync (windowBits (r .signal)) .pos) few (sync-place (r .signal)) b at;
       at = λ h. absurd (unlike h);
     }
 search-bounded r k false e few b at = record { bounded = record { timely = b .timely; misses = b .misses }; at = λ h. at }
@@ -317,7 +313,7 @@ zeros-bounded (suc j) r n k h few b current =
     before = same (pos k -ℤ pos (suc j)) (pos (k - suc j)) (omega (arith, less (pos k) (pos (suc j))))
 
 -- ---- the whole state, with the counter that it expects
-pub record Within (r : Receiver) : Type 0 where
+pub record InBounds (r : Receiver) : Type 0 where
   pub count : ℕ
   pub next : r .next ≡ pos count
   pub most : count ≤ counters
@@ -326,7 +322,7 @@ pub record Within (r : Receiver) : Type 0 where
   pub time : r .slot .time < slots
   pub views : Views (r .slot)
 
-module _ (r : Receiver) (w : Within r) where
+module _ (r : Receiver) (w : InBounds r) where
   pub valid-count : validCount (r .next) ≡ r .next
   unfolding validCount
   valid-count = rw (w .next, ltZ-no (pos (w .count)) (pos 0) (omega arith), ltZ-no (pos counters) (pos (w .count)) (omega (arith, w .most)))
@@ -367,7 +363,7 @@ missing-most n k h = rw e (omega arith)
     e : pos k -ℤ pos n ≡ pos (k - n)
     e = same (pos k -ℤ pos n) (pos (k - n)) (omega (arith, less (pos k) (pos n)))
 
-accept-within : (r : Receiver) (x : ComplexSample) (k : ℕ) → k < counters → (w : Within r) → w .count ≤ k → Within (accept r x (pos k))
+accept-within : (r : Receiver) (x : ComplexSample) (k : ℕ) → k < counters → (w : InBounds r) → w .count ≤ k → InBounds (accept r x (pos k))
 unfolding accept withNext R.zerosBefore
 accept-within r x k few w h =
     let n : ℕ = w .count in
@@ -390,19 +386,19 @@ accept-within r x k few w h =
     add-one = omega arith
 
 -- a refused call leaves the receiver, and one that is not refused comes to o
-unless-within : (n : ℕ) (r : Receiver) (lent : List (List ℕ)) (o : Outcome) → Within r → (n ≡ 0 → Within (o .receiver)) → Within (unless n r lent o .receiver)
+unless-within : (n : ℕ) (r : Receiver) (lent : List (List ℕ)) (o : Outcome) → InBounds r → (n ≡ 0 → InBounds (o .receiver)) → InBounds (unless n r lent o .receiver)
 unfolding unless
 unless-within zero r lent o w h = h refl
 unless-within (suc n) r lent o w h = w
 
-pub sample-within : (r : Receiver) (x : ComplexSample) (c : ℤ) → Within r → Within (sampleOutcome r x c .receiver)
+pub sample-within : (r : Receiver) (x : ComplexSample) (c : ℤ) → InBounds r → InBounds (sampleOutcome r x c .receiver)
 unfolding sampleOutcome sampled
 sample-within r x c w =
     rw (valid-count r w)
     (unless-within (sampleRefusal (r .next) x c) r [] (sampled r x c) w
     (λ e. let a : Accepted (w .count) c = accepted-at (r .next) x c (w .count) e (w .next) in rw (a .is) (accept-within r x (a .counter) (a .below) w (a .least))))
 
-pub taken-within : (r : Receiver) → Within r → Within (withWaits r false)
+pub taken-within : (r : Receiver) → InBounds r → InBounds (withWaits r false)
 unfolding withWaits
 taken-within r w =
     record {
@@ -415,7 +411,7 @@ taken-within r w =
       views = w .views;
     }
 
-take-within : (r : Receiver) (slot subslot1 subslot2 : List ℕ) → Within r → Within (takeOutcome r slot subslot1 subslot2 .receiver)
+take-within : (r : Receiver) (slot subslot1 subslot2 : List ℕ) → InBounds r → InBounds (takeOutcome r slot subslot1 subslot2 .receiver)
 unfolding takeOutcome taken
 take-within r s a b w = unless-within (takeRefusal s a b (r .waits)) r _ (taken r (validSlot (r .slot))) w (λ e. taken-within r w)
 
@@ -439,11 +435,11 @@ slot-when Dl a b h k = k
 slot-when Ul a b h k = k
 
 -- an order to follow: a receiver in Idle or Ul takes a reference time that another in Dl has
-module _ (r other : Receiver) (w : Within r) (o : Within other) (f : Follower (r .mode) (w .count)) where
+module _ (r other : Receiver) (w : InBounds r) (o : InBounds other) (f : Follower (r .mode) (w .count)) where
   abbrev t : Timely (r .mode) (r .clock) (w .count)
   t = w .bounded .timely
 
-  idle-within : Within (withMode r Idle)
+  idle-within : InBounds (withMode r Idle)
   unfolding withMode reach spare
   idle-within =
       record {
@@ -459,7 +455,7 @@ module _ (r other : Receiver) (w : Within r) (o : Within other) (f : Follower (r
         views = w .views;
       }
 
-  uplink-within : other .mode ≡ Dl → Within (following Dl r other)
+  uplink-within : other .mode ≡ Dl → InBounds (following Dl r other)
   unfolding following withMode withClock reach spare
   uplink-within e =
       let u : Timely (other .mode) (other .clock) (o .count) = o .bounded .timely in
@@ -477,14 +473,14 @@ module _ (r other : Receiver) (w : Within r) (o : Within other) (f : Follower (r
         views = w .views;
       }
 
-  following-within : (m : Mode) → other .mode ≡ m → Within (following m r other)
+  following-within : (m : Mode) → other .mode ≡ m → InBounds (following m r other)
   unfolding following
   following-within Idle e = w
   following-within DlUnsynchronized e = idle-within
   following-within Dl e = uplink-within e
   following-within Ul e = w
 
-follow-within : (r other : Receiver) → Within r → Within other → Within (followOutcome r other .receiver)
+follow-within : (r other : Receiver) → InBounds r → InBounds other → InBounds (followOutcome r other .receiver)
 unfolding followOutcome followed
 follow-within r other w o =
     unless-within (followRefusal (r .mode)) r [] (followed r other) w (λ e. following-within r other w o (follower (r .mode) (w .count) e) (other .mode) refl)
@@ -497,7 +493,7 @@ spare-most DlUnsynchronized = omega arith
 spare-most Dl = omega arith
 spare-most Ul = omega arith
 
-pub new-within : (m : Mode) → Within (new m)
+pub new-within : (m : Mode) → InBounds (new m)
 unfolding new noSlot setSlot
 new-within m =
     record {
@@ -511,11 +507,11 @@ new-within m =
     }
 
 -- ---- THE LAW: every receiver that calls can leave is valid, as a sample reads it and as a take reads its slot
-reachable-within : {r : Receiver} → Reachable r → Within r
+reachable-within : {r : Receiver} → Reachable r → InBounds r
 reachable-within (anew m) = new-within m
 reachable-within (Reachable.sampled {r} h x c) = sample-within r x c (reachable-within h)
 reachable-within (Reachable.taken {r} h s a b) = take-within r s a b (reachable-within h)
 reachable-within (told {r} {other} h o) = follow-within r other (reachable-within h) (reachable-within o)
 
 pub reachable-valid : {r : Receiver} → Reachable r → (valid r ≡ r) × (validCount (r .next) ≡ r .next) × (validSlot (r .slot) ≡ r .slot)
-reachable-valid {r} h = let w : Within r = reachable-within h in (valid-same r w, valid-count r w, slot-same r w)
+reachable-valid {r} h = let w : InBounds r = reachable-within h in (valid-same r w, valid-count r w, slot-same r w)

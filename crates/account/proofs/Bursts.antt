@@ -2,7 +2,7 @@
 use mathlib.Core.Path.{_≡_, refl, ap, sym, _∙_}
 use mathlib.Core.Bool.{Bool, true, false, cond, _||_}
 use mathlib.Core.List.{List, [], _∷_}
-use Prim.Native.Nat.{ℕ, zero, suc, _+_, _≤_}
+use Prim.Native.Nat.{ℕ, _+_, _≤_}
 use native.Mathlib.Omega.{arith}
 use lib.ListN.{length, take, drop}
 use lib.Seq.{slice, take-add, drop-at, length-take-le}
@@ -13,7 +13,8 @@ use Rattle.train_consts.specs.Training.{synchronization, normal1, normal2}
 use Rattle.burst_finder.specs.Search.{hammingDistance, errorsAt}
 use Rattle.burst_finder.proofs.Distance.{distance-take}
 use Rattle.burst_finder.proofs.Downlink.{flipped, downlink, sync-type, normal1-type, normal2-type}
-use Rattle.slotter.specs.Bursts.{blockRefusal, trainingRefusal, trainingOf, burstUnless, refusal, normalBurst}
+use Rattle.slotter.specs.Bursts.{blockRefusal, trainingRefusal, trainingOf, normalBurst}
+use Rattle.slotter.proofs.Answers.{burst-number}
 use Rattle.slotter.proofs.Places.{sync-places, normal-places}
 use Rattle.rx_slot.specs.Views.{viewOn, checked}
 use Rattle.account.specs.Rules.{typeOf}
@@ -38,11 +39,6 @@ unfolding synchronization normal1 normal2
 lengths = (refl, refl, refl)
 
 -- a normal burst that is not refused has training sequence 1 or 2
-accepted-number : (n last : ℕ) (fields : List ℕ) → burstUnless n last fields .number ≡ n
-unfolding burstUnless refusal
-accepted-number zero last fields = refl
-accepted-number (suc n) last fields = refl
-
 last-test : (a b : Bool) (k : ℕ) → cond a 3 (cond b 4 k) ≡ 0 → k ≡ 0
 last-test true b k e = absurd (omega (arith, e))
 last-test false true k e = absurd (omega (arith, e))
@@ -51,7 +47,7 @@ last-test false false k e = e
 training-accepted : (n : ℕ) (blk1 bbk blk2 : List ℕ) → normalBurst n blk1 bbk blk2 .number ≡ accepted → trainingRefusal n ≡ 0
 unfolding normalBurst blockRefusal
 training-accepted n blk1 bbk blk2 e =
-    last-test (wrongLength 216 blk1 || wrongLength 30 bbk || wrongLength 216 blk2) (notBits blk1 || notBits bbk || notBits blk2) (trainingRefusal n) (sym (accepted-number _ _ _) ∙ e)
+    last-test (wrongLength 216 blk1 || wrongLength 30 bbk || wrongLength 216 blk2) (notBits blk1 || notBits bbk || notBits blk2) (trainingRefusal n) (sym (burst-number _ _ _) ∙ e)
 
 second : (n : ℕ) → eqb n 1 ≡ false → trainingRefusal n ≡ 0 → n ≡ 2
 unfolding trainingRefusal

@@ -10,7 +10,7 @@ use native.Mathlib.Decide.{decLe}
 use lib.Dec.{ltb, leb}
 use borrow.Author.Tests.{ltb-true, leb-true, le-leb, lt-leb, lt-ltb, le-ltb}
 use Rattle.rx_slot.specs.Slots.{HandedSlot}
-use Rattle.slot_receiver.specs.Windows.{Kind, quiet, lock, slot, Window}
+use Rattle.slot_receiver.specs.Windows.{Kind, searched, lock, slot, Window}
 use Rattle.account.specs.Rules.{Account, start, typeOf, slotWith, slotIn, nextMisses, Turn, between, stays, locks, hands, loses}
 use Rattle.account.specs.Account as Claim
 use Rattle.account.specs.Account.{runOn, typedOr, trainedOn, heldOn, Soon, ifSlot, inside, closedIn, handedIn}
@@ -52,13 +52,13 @@ near-down s t n h =
 
 slot-le : (k : Kind) (m n : ℕ) → m ≤ n → ifSlot k m ≤ ifSlot k n
 unfolding ifSlot
-slot-le quiet m n h = omega arith
+slot-le searched m n h = omega arith
 slot-le lock m n h = omega arith
 slot-le (slot s) m n h = h
 
 slot-most : (k : Kind) (m : ℕ) → ifSlot k m ≤ m
 unfolding ifSlot
-slot-most quiet m = omega arith
+slot-most searched m = omega arith
 slot-most lock m = omega arith
 slot-most (slot s) m = omega arith
 
@@ -181,7 +181,7 @@ lawful-start = record {
 
 -- a search window, and a lock
 lawful-stays : (a : Account) (n : ℕ) → Lawful a → n ≡ a .due → a .locked ≡ false
-    → Lawful (record { due = n + 400; locked = false; number = a .number; misses = a .misses; windows = record { counter = n; kind = quiet } ∷ a .windows })
+    → Lawful (record { due = n + 400; locked = false; number = a .number; misses = a .misses; windows = record { counter = n; kind = searched } ∷ a .windows })
 unfolding Claim.held heldOn Claim.run runOn Soon recent recent-slots ifSlot
 lawful-stays a n l eq e =
     let s : Seeking a = seeking a l e in
@@ -191,8 +191,8 @@ lawful-stays a n l eq e =
       bounds = record {
         held = refl;
         soon = λ h. absurd (omega (arith, h));
-        four = λ k. more-four k n quiet ws (b .four k) (omega (arith, b .three, recent-down n (a .due) ws (omega arith)));
-        two = λ k. more-two k n quiet ws (b .two k) (omega (arith, b .slots, slots-down n (a .due) ws (omega arith)));
+        four = λ k. more-four k n searched ws (b .four k) (omega (arith, b .three, recent-down n (a .due) ws (omega arith)));
+        two = λ k. more-two k n searched ws (b .two k) (omega (arith, b .slots, slots-down n (a .due) ws (omega arith)));
         past = omega (arith, near-no (n + 400 + 1017) n (omega arith), recent-down (n + 400 + 1017) (a .due + 1017) ws (omega arith), b .past);
         three = omega (arith, near-one (n + 400) n, recent-down (n + 400) (a .due + 400) ws (omega arith), s .one-back);
         slots = omega (arith, slots-down (n + 400) (a .due) ws (omega arith), b .slots);

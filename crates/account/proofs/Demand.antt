@@ -22,7 +22,7 @@ use Rattle.account.specs.Rules.{Account, Turn, between, stays, locks, ha
 use Rattle.account.specs.Tracked.{Tracked, signalHeard, slotGap, errorAfter, searchTurn, slotTurn, turn, tracked, account}
 use Rattle.account.specs.Account as Claim
 use Rattle.account.specs.Account.{Told, waits, changed, lastHanded, toldTake, heard, nextCounter, Counted, accountOf, expected, expectedAll, filledBy, expectedLent, Gives, Reported, Demand3, Throughout}
-use Rattle.account.proofs.Laws.{finds-holds, holds-finds, Placed, placed, window-type}
+use Rattle.account.proofs.Laws.{finds-holds, holds-finds, SyncPlace, sync-place, window-type}
 use Rattle.account.proofs.Simulation.{gap-span, turn-no, turn-search, turn-slot}
 use Rattle.account.proofs.Agreement.{Agree, agree, mode-is, take-leaves, heard-is, newer-cons, seen-sample}
 use Rattle.account.proofs.Counts.{Lawful, fixed, lawful-start, lawful-turn}
@@ -45,7 +45,7 @@ turned t n s lawful =
         rw (turn-search t n s false e g h) (stays (eqb-true n (t .account .due) e) g (λ holds. omega (arith, leb-false (findSync (windowBits s) .dist) 1 h, holds-finds s holds)))
     go true e false g true h m i =
         let l = leb-true (findSync (windowBits s) .dist) 1 h in
-        let p : Placed (findSync (windowBits s) .pos) = placed s in
+        let p : SyncPlace (findSync (windowBits s) .pos) = sync-place s in
         rw (turn-search t n s true e g h) (locks (4 + 2 * findSync (windowBits s) .pos) (eqb-true n (t .account .due) e) g (finds-holds s l) (omega (arith, p)) (omega (arith, p)))
     go true e true g f h true i =
         let y : Float = errorAfter (typeOf (windowBits s)) (t .error) (slotTiming s) in
@@ -160,7 +160,7 @@ demand3 cs u =
     let r = rules (heard cs) in
     record {
       rules = r .0;
-      closes = g .windows;
+      windows = g .windows;
       mode = mode-is (after cs .mode) (after cs .clock) (after cs .lock) (length (heard cs)) (tracked (heard cs)) (g .timed);
       answered = g .answered;
       fills = fills cs (g .answered);

@@ -46,12 +46,12 @@ module _ (s : Signal) where
   window-type b = burst-type (windowBits s) long b
 
 -- a place counted from bit 216: even, and no later than bit 472
-pub record Placed (place : ℕ) : Type 0 where
+pub record SyncPlace (place : ℕ) : Type 0 where
   pub half : ℕ
   pub even : place ≡ 2 * half
   pub most : half ≤ 128
 
-pub placed : (s : Signal) → Placed (findSync (windowBits s) .pos)
-placed s =
+pub sync-place : (s : Signal) → SyncPlace (findSync (windowBits s) .pos)
+sync-place s =
     let p = Lock.placed (windowBits s) (long s) in
     record { half = p .half - 108; even = omega (arith, p .place); most = omega (arith, p .most) }

@@ -10,15 +10,10 @@ use Rattle.rx_slot.specs.declared.RxSlot.{RxSlot}
 use Rattle.rx_slot.specs.Slots.{HandedSlot}
 use Rattle.slot_receiver.specs.Calls.{Reply, refused, done, took, inNumbers}
 use Rattle.rx_slot.specs.Views.{padded}
+use Rattle.rx_slot.proofs.Laws.{length-padded}
 use Rattle.account.specs.Runs.{rowLength, viewRow, rowOf, rows, bytesOf, bytesOfAll}
 
 -- ---- bits with zeros behind them
-
-pub length-padded : (n : ℕ) (bits : List ℕ) → length (padded n bits) ≡ n
-unfolding padded
-length-padded zero bits = refl
-length-padded (suc n) [] = ap suc (length-padded n [])
-length-padded (suc n) (b ∷ bits) = ap suc (length-padded n bits)
 
 pub padded-none : (n : ℕ) → padded n [] ≡ replicate n 0
 unfolding padded
@@ -32,14 +27,7 @@ padded-more zero i b h = absurd (omega arith)
 padded-more (suc n) zero b h = refl
 padded-more (suc n) (suc i) b h = ap (λ (l : List ℕ). b ∷ l) (padded-more n i b (omega arith))
 
--- the bits in front, and others in their place
-pub padded-front : (n : ℕ) (bits : List ℕ) → length bits ≤ n → take (length bits) (padded n bits) ≡ bits
-unfolding padded
-padded-front zero [] h = refl
-padded-front zero (b ∷ bits) h = absurd (omega arith)
-padded-front (suc n) [] h = refl
-padded-front (suc n) (b ∷ bits) h = ap (λ (l : List ℕ). b ∷ l) (padded-front n bits (omega arith))
-
+-- others in the bits' place
 pub padded-over : (n : ℕ) (bits others : List ℕ) → length bits ≤ n → length others ≡ length bits → others ++ drop (length bits) (padded n bits) ≡ padded n others
 unfolding padded
 padded-over n [] [] h e = refl

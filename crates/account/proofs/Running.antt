@@ -16,11 +16,12 @@ use Rattle.rx_slot.specs.Slots.{HandedSlot}
 use Rattle.slot_receiver.specs.Receiver.{Receiver, new, validCount}
 use Rattle.slot_receiver.specs.Calls.{Reply, Outcome, unless, sampleRefusal, sampled, sampleOutcome, takeOutcome, followRefusal, followed, followOutcome, inNumbers}
 use Rattle.rx_slot.specs.Views.{padded}
+use Rattle.rx_slot.proofs.Laws.{padded-front}
 use Rattle.account.specs.CallList as CallList
 use Rattle.account.specs.CallList.{Call, sample, follow, outcome, after, answers, lentAfter}
 use Rattle.account.specs.Runs.{rowLength, lentBytes, callOf, callsOf, fewest, roomIn, callsIn, rowOf, rows, bytesOf, bytesOfAll, Makes, Written, Ran}
 use Rattle.account.proofs.Demand.{demand3, throughout}
-use Rattle.account.proofs.Rows.{padded-none, padded-front, padded-over, length-row, length-rows, length-bytes, length-all, behind}
+use Rattle.account.proofs.Rows.{padded-none, padded-over, length-row, length-rows, length-bytes, length-all, behind}
 
 -- ---- one call
 

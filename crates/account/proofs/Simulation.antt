@@ -28,11 +28,11 @@ use Rattle.slot_receiver.specs.declared.Mode.the-variants.{DlUnsynchronized, Dl
 use Rattle.slot_receiver.specs.Receiver.{Clock, Lock, Receiver, withMode, withClock, withLock, withWaits, withSlot, withSignal, far, slotsToSkip, listen, closeWindow, valid, processSample, setSlot, addSlots}
 use Rattle.rx_slot.specs.Slots.{HandedSlot, withViews}
 use Rattle.rx_slot.specs.Views.{noView, checked}
-use Rattle.slot_receiver.specs.Windows.{Kind, quiet, lock, slot, Window, kindOf, searchKind, windowAt, windowOf, windowIf}
+use Rattle.slot_receiver.specs.Windows.{Kind, searched, lock, slot, Window, kindOf, searchKind, windowAt, windowOf, windowIf}
 use Rattle.account.specs.Rules.{Account, typeOf, slotWith, slotIn, nextMisses, nextNumber}
 use Rattle.account.specs.Tracked.{Tracked, slotGap, errorAfter, searchTurn, slotTurn, windowTurn, turnIf, turn}
 use Rattle.account.specs.Account.{Waiting, nothing, waits, changed}
-use Rattle.account.proofs.Laws.{not-late, not-early, Placed, placed}
+use Rattle.account.proofs.Laws.{not-late, not-early, SyncPlace, sync-place}
 use Rattle.account.proofs.Times.{near, past, skips-one, closes-yes, closes-no, ready-parts, next-slot, first-slot, found-parts}
 
 -- what waits after some windows more, the last first
@@ -75,10 +75,10 @@ pub record Steady (c : Clock) (n : ℕ) (t : Tracked) : Type 0 where
   pub slow : t .account .number * 1019 ≤ t .account .due
   pub begun : 1019 ≤ t .account .due
 
-pub data Timed (m : Mode) (c : Clock) (l : Lock) (n : ℕ) (t : Tracked) : Type 0 where
-  searching : Search m c n t → Timed m c l n t
-  fresh : Locked m l t → Fresh c n t → Timed m c l n t
-  steady : Locked m l t → Steady c n t → Timed m c l n t
+pub data InStep (m : Mode) (c : Clock) (l : Lock) (n : ℕ) (t : Tracked) : Type 0 where
+  searching : Search m c n t → InStep m c l n t
+  fresh : Locked m l t → Fresh c n t → InStep m c l n t
+  steady : Locked m l t → Steady c n t → InStep m c l n t
 
 -- ---- the handed slot is what waits
 
@@ -114,10 +114,10 @@ handed-waits r a bits v e w =
     record { stands = (refl, handed-is r a bits e (w .whole)); whole = record { subslot1 = w .whole .subslot1; subslot2 = w .whole .subslot2 } }
 
 module _ (b : Bool) (h : HandedSlot) where
-  emptied-quiet : (v : Waiting) → Waits b h v → Waits b (R.emptied h (h .time)) (changed quiet v)
+  emptied-searched : (v : Waiting) → Waits b h v → Waits b (R.emptied h (h .time)) (changed searched v)
   unfolding withViews R.emptied changed
-  emptied-quiet nothing w = record { stands = w .stands; whole = record { subslot1 = w .whole .subslot1; subslot2 = w .whole .subslot2 } }
-  emptied-quiet (waits v) w =
+  emptied-searched nothing w = record { stands = w .stands; whole = record { subslot1 = w .whole .subslot1; subslot2 = w .whole .subslot2 } }
+  emptied-searched (waits v) w =
       record {
         stands = (w .stands .0, emptied-is h (w .whole) (h .time) ∙ ap (λ (g : HandedSlot). withViews g (g .time) noView noView noView) (w .stands .1));
         whole = record { subslot1 = w .whole .subslot1; subslot2 = w .whole .subslot2 };
@@ -134,7 +134,7 @@ module _ (b : Bool) (h : HandedSlot) where
 
 -- a sample with the counter n takes r to r′, closing the windows w
 pub record Stepped (r r′ : Receiver) (w : List Window) (n : ℕ) (s : Signal) (t t′ : Tracked) : Type 0 where
-  pub timed : Timed (r′ .mode) (r′ .clock) (r′ .lock) (suc n) t′
+  pub timed : InStep (r′ .mode) (r′ .clock) (r′ .lock) (suc n) t′
   pub signal : r′ .signal ≡ s
   pub windows : w ++ t .account .windows ≡ t′ .account .windows
   pub waiting : (v : Waiting) → Waits (r .waits) (r .slot) v → Waits (r′ .waits) (r′ .slot) (over w v)
@@ -260,9 +260,9 @@ assemble : {r r₁ r₂ : Receiver} {w₁ w₂ : List Window} {n : ℕ} {s : Sig
 assemble p q s u = rw (p, q, s) u
 
 -- the kind of a window, from the mode before it closed and the receiver after
-kind-quiet : (m : Mode) (c r : Receiver) → m ≡ DlUnsynchronized → c ≡ r → r .mode ≡ DlUnsynchronized → kindOf m c ≡ quiet
+kind-searched : (m : Mode) (c r : Receiver) → m ≡ DlUnsynchronized → c ≡ r → r .mode ≡ DlUnsynchronized → kindOf m c ≡ searched
 unfolding kindOf searchKind
-kind-quiet m c r p q e = rw (p, q, e)
+kind-searched m c r p q e = rw (p, q, e)
 
 kind-lock : (m : Mode) (c r : Receiver) → m ≡ DlUnsynchronized → c ≡ r → r .mode ≡ Dl → kindOf m c ≡ lock
 unfolding kindOf searchKind
@@ -329,14 +329,14 @@ module _ (r : Receiver) (x : ComplexSample) (n : ℕ) (t : Tracked) (v : valid r
       let z : ℤ = r .clock .slotReadyTime in
       let q = shuts r x n v (near n z (omega (arith, s)) (omega (arith, s))) (closes-yes n z (omega (arith, s))) in
       let c = close-stays (listen r x) (s .mode) f in
-      let k = kind-quiet (r .mode) (closeWindow (listen r x)) (stayed (listen r x)) (s .mode) c (s .mode) in
+      let k = kind-searched (r .mode) (closeWindow (listen r x)) (stayed (listen r x)) (s .mode) c (s .mode) in
       let a : dn (z +ℤ pos 400) ≡ 0 = above-zero (z +ℤ pos 400) (omega (arith, sum z (pos 400), s)) in
       assemble (q .0 ∙ c) (one-window (q .1) k) (turn-search t n s′ false e (s .unlocked) f)
       (record {
         timed = searching (record { mode = s .mode; unlocked = refl; above-zero = a; due = omega (arith, sum z (pos 400), s, a); least = omega arith; most = omega arith; begun = omega (arith, s) });
         signal = refl;
         windows = refl;
-        waiting = λ v h. emptied-quiet (r .waits) (r .slot) v h;
+        waiting = λ v h. emptied-searched (r .waits) (r .slot) v h;
       })
 
   -- a search window that locks
@@ -349,7 +349,7 @@ module _ (r : Receiver) (x : ComplexSample) (n : ℕ) (t : Tracked) (v : valid r
       let c = close-locks (listen r x) (s .mode) f in
       let r′ : Receiver = found (listen r x) in
       let k = kind-lock (r .mode) (closeWindow (listen r x)) r′ (s .mode) c refl in
-      let p : Placed (findSync (windowBits s′) .pos) = placed s′ in
+      let p : SyncPlace (findSync (windowBits s′) .pos) = sync-place s′ in
       let y = found-parts z (findSync (windowBits s′) .pos) (p .half) (p .even) (p .most) in
       let u = ready-parts (r′ .clock .referenceTime) 0 1018 in
       assemble (q .0 ∙ c) (one-window (q .1) k) (turn-search t n s′ true e (s .unlocked) f)
@@ -461,7 +461,7 @@ module _ (r : Receiver) (x : ComplexSample) (n : ℕ) (t : Tracked) (v : valid r
       })
 
   -- all together
-  pub stepped : Timed (r .mode) (r .clock) (r .lock) n t → Whole (r .slot) → n < counters → Steps
+  pub stepped : InStep (r .mode) (r .clock) (r .lock) n t → Whole (r .slot) → n < counters → Steps
   stepped (searching s) u few = go (eqb n (t .account .due)) refl (leb (findSync (windowBits s′) .dist) 1) refl
     where
       go : (b : Bool) → eqb n (t .account .due) ≡ b → (d : Bool) → leb (findSync (windowBits s′) .dist) 1 ≡ d → Steps

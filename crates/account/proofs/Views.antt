@@ -1,6 +1,6 @@
 -- The views that windows leave: to read one as valid changes nothing, since it is none, or has a type, few errors and bits of its window.
 use mathlib.Core.Path.{_≡_, refl}
-use mathlib.Core.Bool.{Bool, true, false, _||_}
+use mathlib.Core.Bool.{false}
 use mathlib.Core.Logic.{inl, inr}
 use mathlib.Core.List.{List, [], _∷_, map}
 use Prim.Native.Nat.{ℕ, zero, suc, _+_, _%_, _≤_, _<_}
@@ -9,6 +9,7 @@ use native.Mathlib.Omega.{arith}
 use lib.Dec.{ltb}
 use lib.ListN.{length, take, drop}
 use borrow.Author.Tests.{le-leb, ne-eqb, ltb-false}
+use Rattle.dsp_types.proofs.Laws.{neither}
 use Rattle.dsp_types.specs.Refusals.{notBits}
 use Rattle.dsp_types.specs.Samples.{silence, ago}
 use Rattle.dsp_types.specs.Times.{slots}
@@ -26,27 +27,23 @@ use Rattle.rx_slot.specs.Slots.{HandedSlot, withViews, validSlot}
 
 -- ---- bits
 
-both : (a b : Bool) → (a || b) ≡ false → (a ≡ false) × (b ≡ false)
-both true b e = absurd (let z : _≡_ {A = ℕ} 0 1 = cc in omega arith)
-both false b e = (refl, e)
-
 bits-drop : (n : ℕ) (bits : List ℕ) → notBits bits ≡ false → notBits (drop n bits) ≡ false
 unfolding notBits
 bits-drop zero bits e = e
 bits-drop (suc n) [] e = refl
-bits-drop (suc n) (b ∷ bits) e = bits-drop n bits (both (ltb 1 b) (notBits bits) e .1)
+bits-drop (suc n) (b ∷ bits) e = bits-drop n bits (neither (ltb 1 b) (notBits bits) e .1)
 
 bits-take : (n : ℕ) (bits : List ℕ) → notBits bits ≡ false → notBits (take n bits) ≡ false
 unfolding notBits
 bits-take zero bits e = refl
 bits-take (suc n) [] e = refl
-bits-take (suc n) (b ∷ bits) e = let h = both (ltb 1 b) (notBits bits) e in rw (h .0) (bits-take n bits (h .1))
+bits-take (suc n) (b ∷ bits) e = let h = neither (ltb 1 b) (notBits bits) e in rw (h .0) (bits-take n bits (h .1))
 
 bits-read : (bits : List ℕ) → notBits bits ≡ false → map (λ b. b % 2) bits ≡ bits
 unfolding notBits
 bits-read [] e = refl
 bits-read (b ∷ bits) e =
-    let h = both (ltb 1 b) (notBits bits) e in
+    let h = neither (ltb 1 b) (notBits bits) e in
     let m : b % 2 ≡ b = mod-eq-of-lt (omega (arith, ltb-false 1 b (h .0))) in
     λ i. m i ∷ bits-read bits (h .1) i
 

@@ -17,7 +17,7 @@ use Rattle.slot_receiver.specs.declared.Mode.the-variants.{DlUnsynchronized, Dl
 use Rattle.listener.specs.Signal.{windowBits}
 use Rattle.rx_slot.specs.Slots.{HandedSlot, withViews, filled}
 use Rattle.rx_slot.specs.Views.{noView}
-use Rattle.slot_receiver.specs.Windows.{Kind, quiet, lock, slot, Window}
+use Rattle.slot_receiver.specs.Windows.{Kind, searched, lock, slot, Window}
 use Rattle.slot_receiver.specs.Calls.{Reply, refused, done, took, sampleRefusal}
 use Rattle.account.specs.CallList as CallList
 use Rattle.account.specs.CallList.{Call, sample, follow, lent, outcome, after, answers, closed, lentAfter}
@@ -33,7 +33,7 @@ Told (x ∷ older) = Told older × Turn (account older) (length older) (windowBi
 
 -- how many slots in a row, up to this window, were handed over without a training sequence, where it were k before
 unfoldable pub runOn : Kind → ℕ → ℕ
-runOn quiet k = 0
+runOn searched k = 0
 runOn lock k = 0
 runOn (slot h) k = nextMisses (h .full .type) k
 
@@ -49,7 +49,7 @@ typedOr (suc t) now before = now
 
 -- 01's "has a training sequence": "the account locked on it or its type is not 0". Then this window's counter, else the one before
 unfoldable pub trainedOn : Kind → ℕ → ℕ → ℕ
-trainedOn quiet now before = before
+trainedOn searched now before = before
 trainedOn lock now before = now
 trainedOn (slot h) now before = typedOr (h .full .type) now before
 
@@ -60,7 +60,7 @@ trained (w ∷ ws) = trainedOn (w .kind) (w .counter) (trained ws)
 
 -- whether a window, with k such slots in a row, leaves a lock
 unfoldable pub heldOn : Kind → ℕ → Bool
-heldOn quiet k = false
+heldOn searched k = false
 heldOn lock k = true
 heldOn (slot h) k = ltb k 100
 
@@ -85,7 +85,7 @@ closedIn k (w ∷ ws) = inside k (w .counter) + closedIn k ws
 
 -- n for a handed slot, else 0
 unfoldable pub ifSlot : Kind → ℕ → ℕ
-ifSlot quiet n = 0
+ifSlot searched n = 0
 ifSlot lock n = 0
 ifSlot (slot h) n = n
 
@@ -134,8 +134,8 @@ pub data Waiting : Type 0 where
 -- "A search window empties the full slot's finding, also while an earlier slot waits untaken; that slot is then taken with type 0, and
 -- keeps its number unless such a window finds, which makes it 0."
 unfoldable pub changed : Kind → Waiting → Waiting
-changed quiet nothing = nothing
-changed quiet (waits h) = waits (withViews h (h .time) noView noView noView)
+changed searched nothing = nothing
+changed searched (waits h) = waits (withViews h (h .time) noView noView noView)
 changed lock nothing = nothing
 changed lock (waits h) = waits (withViews h 0 noView noView noView)
 changed (slot h) w = waits h
@@ -243,7 +243,7 @@ pub record Demand3 (cs : List Call) : Type 0 where
   -- the account is 01's: 1,034, 400, the lock rule, 4 to 516, 1,019 to 1,021, numbers, misses, the hundredth
   pub rules : Told (heard cs)
   -- "The receiver closes these windows and no others, and after the list it searches or is locked as the account is."
-  pub closes : closed cs ≡ accountOf cs .windows
+  pub windows : closed cs ≡ accountOf cs .windows
   pub mode : after cs .mode ≡ lockedMode (accountOf cs .locked)
   -- "its takes answer as 01's account of it tells", and so do the other calls; the lent slices after them
   pub answered : answers cs ≡ expectedAll cs

@@ -8,7 +8,7 @@ use Rattle.burst_finder.specs.declared.SlotType.the-variants as SlotType
 use Rattle.burst_finder.specs.Search.{Holds}
 use Rattle.rx_slot.specs.Views.{BurstView, noView, checked}
 use Rattle.rx_slot.specs.Slots.{HandedSlot}
-use Rattle.slot_receiver.specs.Windows.{quiet, lock, slot, Window}
+use Rattle.slot_receiver.specs.Windows.{searched, lock, slot, Window}
 
 -- 01's "account": when the next closing is due, whether it is locked or in search, the next number, misses, and the windows closed so far
 pub record Account : Type 0 where
@@ -47,7 +47,7 @@ nextNumber n = suc n % slots
 
 -- a search window: it goes on searching
 abbrev pub unfound : Account → ℕ → Account
-unfound a n = record { due = n + 400; locked = false; number = a .number; misses = a .misses; windows = record { counter = n; kind = quiet } ∷ a .windows }
+unfound a n = record { due = n + 400; locked = false; number = a .number; misses = a .misses; windows = record { counter = n; kind = searched } ∷ a .windows }
 
 -- a search window: "the account is locked, the next number is 1, misses are 0, and the next closing is due 4 to 516 later"
 abbrev pub locked : Account → ℕ → (gap : ℕ) → Account

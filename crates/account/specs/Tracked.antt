@@ -11,13 +11,13 @@ use Rattle.dsp_types.specs.declared.ComplexSample.{ComplexSample}
 use Rattle.dsp_types.specs.Samples.{zeroF}
 use Rattle.timing.specs.Tracking.{averagedOf, settledOf, movedOf}
 use Rattle.burst_finder.specs.Search.{findSync}
-use Rattle.listener.specs.Signal.{Signal, quiet, hear, slotTiming, windowBits}
+use Rattle.listener.specs.Signal.{Signal, unheard, hear, slotTiming, windowBits}
 use Rattle.account.specs.Rules.{Account, start, typeOf, nextMisses, unfound, locked, handed}
 
 -- the samples so far, as the receiver keeps them. The bits of a window are `windowBits` of it: "what the sections above make of the
 -- samples up to and with that one"
 unfoldable pub signalHeard : List ComplexSample → Signal
-signalHeard [] = quiet
+signalHeard [] = unheard
 signalHeard (x ∷ older) = hear (signalHeard older) x
 
 -- the account, and beside it the averaged timing error of the source

@@ -19,18 +19,18 @@ wanted-most type = go (eqb type 4)
     go true = omega arith
     go false = omega arith
 
-pub sync-blocks : {w : List ℕ} (kind : ℕ) (cs z : List ℕ) → kind ≡ 4 → length cs ≡ wanted kind → w ≡ map characterBit cs ++ z
-    → syncBurst (take 120 w) (take 30 (drop 120 w)) (take 216 (drop 150 w)) ≡ burstOf kind (map characterBit cs)
+pub sync-blocks : {w : List ℕ} (type : ℕ) (cs z : List ℕ) → type ≡ 4 → length cs ≡ wanted type → w ≡ map characterBit cs ++ z
+    → syncBurst (take 120 w) (take 30 (drop 120 w)) (take 216 (drop 150 w)) ≡ burstOf type (map characterBit cs)
 unfolding wanted burstOf
-sync-blocks kind cs z k n e =
+sync-blocks type cs z k n e =
     let M : List ℕ = map characterBit cs in
-    let l : length M ≡ 366 = length-map cs characterBit ∙ (rw (eq-eqb kind 4 k) at n) in
-    rw (e, eq-eqb kind 4 k, part M z 0 120 (omega arith), part M z 120 30 (omega arith), rest M z 150 216 (omega arith))
+    let l : length M ≡ 366 = length-map cs characterBit ∙ (rw (eq-eqb type 4 k) at n) in
+    rw (e, eq-eqb type 4 k, part M z 0 120 (omega arith), part M z 120 30 (omega arith), rest M z 150 216 (omega arith))
 
-pub normal-blocks : {w : List ℕ} (kind : ℕ) (cs z : List ℕ) → (kind ≡ 4 → ⊥) → length cs ≡ wanted kind → w ≡ map characterBit cs ++ z
-    → normalBurst kind (take 216 w) (take 30 (drop 216 w)) (take 216 (drop 246 w)) ≡ burstOf kind (map characterBit cs)
+pub normal-blocks : {w : List ℕ} (type : ℕ) (cs z : List ℕ) → (type ≡ 4 → ⊥) → length cs ≡ wanted type → w ≡ map characterBit cs ++ z
+    → normalBurst type (take 216 w) (take 30 (drop 216 w)) (take 216 (drop 246 w)) ≡ burstOf type (map characterBit cs)
 unfolding wanted burstOf
-normal-blocks kind cs z k n e =
+normal-blocks type cs z k n e =
     let M : List ℕ = map characterBit cs in
-    let l : length M ≡ 462 = length-map cs characterBit ∙ (rw (ne-eqb kind 4 k) at n) in
-    rw (e, ne-eqb kind 4 k, part M z 0 216 (omega arith), part M z 216 30 (omega arith), rest M z 246 216 (omega arith))
+    let l : length M ≡ 462 = length-map cs characterBit ∙ (rw (ne-eqb type 4 k) at n) in
+    rw (e, ne-eqb type 4 k, part M z 0 216 (omega arith), part M z 216 30 (omega arith), rest M z 246 216 (omega arith))

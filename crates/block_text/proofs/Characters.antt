@@ -1,6 +1,6 @@
 -- The characters of blocks: what the code's loops and parts make of them, for any number of them.
-use mathlib.Core.Path.{_≡_, refl, sym, ap, _∙_}
-use mathlib.Core.Bool.{Bool, true, false, _||_}
+use mathlib.Core.Path.{_≡_, sym, ap, _∙_}
+use mathlib.Core.Bool.{Bool, _||_, or-assoc, or-false}
 use mathlib.Core.List.{List, _++_, map}
 use Prim.Native.Nat.{ℕ, suc, _+_, _≤_, _<_}
 use native.Mathlib.Nat.{zero-add}
@@ -12,22 +12,14 @@ use Rattle.block_text.specs.BlockText.{notCharacter, notCharacters, char
 
 -- ---- one more character is looked at
 
-pub or-assoc : (a b c : Bool) → (a || (b || c)) ≡ (a || b || c)
-or-assoc true b c = refl
-or-assoc false b c = refl
-
-or-none : (a : Bool) → (a || false) ≡ a
-or-none true = refl
-or-none false = refl
-
 pub one-more : (cs : List ℕ) (found : Bool) (i : ℕ) → i < length cs → notCharacters cs ≡ (found || notCharacters (drop i cs))
     → notCharacters cs ≡ (found || notCharacter (getD cs i 0) || notCharacters (drop (i + 1) cs))
 unfolding notCharacters
-one-more cs found i h e = e ∙ rw (drop-cons cs i 0 h, add-one i) (or-assoc found (notCharacter (getD cs i 0)) _)
+one-more cs found i h e = e ∙ rw (drop-cons cs i 0 h, add-one i) (sym (or-assoc found (notCharacter (getD cs i 0)) (notCharacters (drop (suc i) cs))))
 
 pub no-more : (cs : List ℕ) (found : Bool) (i : ℕ) → length cs ≤ i → notCharacters cs ≡ (found || notCharacters (drop i cs)) → found ≡ notCharacters cs
 unfolding notCharacters
-no-more cs found i h e = sym (e ∙ rw (drop-of-length-le cs h) (or-none found))
+no-more cs found i h e = sym (e ∙ rw (drop-of-length-le cs h) (or-false found))
 
 -- ---- the bits
 

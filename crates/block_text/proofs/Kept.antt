@@ -14,7 +14,7 @@ use Rattle.slotter.specs.Bursts.{refusal}
 use Rattle.text.specs.Text.{ascii, trimmed}
 use Rattle.text.proofs.Trimming.{trimmed-append}
 use Rattle.block_text.specs.BlockText.{wanted, wrongCount, refusalOf, answerOf}
-use Rattle.block_text.specs.Lines.{startsWith, none, silence, burst, unknown, asked, Sent, passed, quiet, reported, answered, sentFor, sentOf}
+use Rattle.block_text.specs.Lines.{startsWith, none, silence, burst, unknown, asked, Sent, passed, empty, reported, answered, sentFor, sentOf}
 use Rattle.block_text.proofs.Blocks.{wanted-most}
 
 starts : (word line rest : List ℕ) → length word ≤ length line → startsWith word (line ++ rest) ≡ startsWith word line

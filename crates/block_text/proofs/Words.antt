@@ -1,6 +1,6 @@
 -- A line that starts with a word: the definition is that its first bytes are the word's.
 use mathlib.Core.Path.{_≡_, refl, sym}
-use mathlib.Core.Bool.{Bool, true, false, _&&_}
+use mathlib.Core.Bool.{Bool, true, false, _&&_, false≢true}
 use mathlib.Core.List.{List, [], _∷_}
 use Prim.Native.Nat.{ℕ, _<_}
 use native.Mathlib.Omega.{arith}
@@ -8,9 +8,6 @@ use lib.Dec.{eqb}
 use lib.ListN.{length, take}
 use borrow.Author.Tests.{eq-eqb, eqb-true}
 use Rattle.block_text.specs.Lines.{startsWith}
-
-false-true : false ≡ true → ⊥
-false-true e = let z : _≡_ {A = ℕ} 0 1 = cc in omega arith
 
 pub too-short : (word line : List ℕ) → length line < length word → false ≡ startsWith word line
 unfolding startsWith
@@ -31,13 +28,13 @@ took (w ∷ word) (b ∷ line) e = rw (eq-eqb b w (cc), took word line (cc))
 whole : (word line : List ℕ) → startsWith word line ≡ true → take (length word) line ≡ word
 unfolding startsWith
 whole [] line e = refl
-whole (w ∷ word) [] e = absurd (false-true e)
+whole (w ∷ word) [] e = absurd (false≢true e)
 whole (w ∷ word) (b ∷ line) e = go (eqb b w) refl (whole word line) e
   where
     go : (d : Bool) → eqb b w ≡ d → (startsWith word line ≡ true → take (length word) line ≡ word) → (d && startsWith word line) ≡ true
         → _≡_ {A = List ℕ} (b ∷ take (length word) line) (w ∷ word)
     go true d f e = rw (eqb-true b w d, f e)
-    go false d f e = absurd (false-true e)
+    go false d f e = absurd (false≢true e)
 
 pub starts : (word line : List ℕ) (r : Bool) → (r ≡ true → take (length word) line ≡ word) → (take (length word) line ≡ word → r ≡ true) → r ≡ startsWith word line
 starts word line true f g = sym (took word line (f refl))

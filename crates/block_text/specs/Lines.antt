@@ -5,10 +5,15 @@ use mathlib.Core.List.{List, [], _∷_}
 use lib.Dec.{eqb}
 use lib.ListN.{length, drop}
 use Rattle.text.specs.Text.{ascii, trimmed}
+use Rattle.dsp_types.specs.Refusals.{accepted, badBit}
 use Rattle.slotter.specs.Bursts.{BuilderReply}
 use Rattle.block_text.specs.declared.line.Asked.{Asked}
 use Rattle.block_text.specs.BlockText.{answerOf}
 use Rattle.block_text.specs.declared.line.Asked.the-variants.{Nothing, Empty, Burst, Unknown}
+use Rattle.block_text.specs.declared.slot.Complaint.{Complaint}
+use Rattle.block_text.specs.declared.slot.Complaint.the-variants.{None, NotBits, SyncLength, NormalLength}
+use Rattle.block_text.specs.declared.slot.Complaint.the-variants as Complaint
+use Rattle.block_text.specs.declared.slot.LineSlot.{LineSlot}
 
 -- no slot, one without a burst, a burst of a type from its blocks' characters, or what is reported and sent without a burst
 pub data Wish : Type 0 where
@@ -40,15 +45,38 @@ asked line =
 
 -- what a wish comes to: the blocks of a burst are answered
 pub data Sent : Type 0 where
-  passed quiet reported : Sent
+  passed empty reported : Sent
   answered : ℕ → BuilderReply → Sent
 
 unfoldable pub sentFor : Wish → Sent
 sentFor none = passed
-sentFor silence = quiet
+sentFor silence = empty
 sentFor (burst type characters) = answered type (answerOf type characters)
 sentFor unknown = reported
 
 -- what a line comes to, of which one closing carriage return is dropped
 unfoldable pub sentOf : List ℕ → Sent
 sentOf line = sentFor (asked (trimmed 13 line))
+
+-- ---- what goes out for it, and what is said of it
+
+-- the slots that are sent, each with the bits of its burst: a slot without one has none
+unfoldable pub slotsFor : Sent → List (List ℕ)
+slotsFor passed = []
+slotsFor empty = [] ∷ []
+slotsFor reported = [] ∷ []
+slotsFor (answered type reply) = cond (eqb (reply .number) accepted) (reply .bits) [] ∷ []
+
+-- blocks of that type, answered with that number
+unfoldable pub complaintOf : ℕ → ℕ → Complaint
+complaintOf type number = cond (eqb number accepted) None (cond (eqb number badBit) NotBits (cond (eqb type 4) SyncLength NormalLength))
+
+unfoldable pub complaintFor : Sent → Complaint
+complaintFor passed = None
+complaintFor empty = None
+complaintFor reported = Complaint.Unknown
+complaintFor (answered type reply) = complaintOf type (reply .number)
+
+-- a slot as the code hands it on
+unfoldable pub slotsOf : LineSlot → List (List ℕ)
+slotsOf s = cond (s .«is_sent») (cond (s .«has_bits») (s .bits) [] ∷ []) []

@@ -1,14 +1,16 @@
 // Bursts from their blocks' bits written as characters, joined in burst order.
 mod line;
+mod slot;
 
 use dsp_types::ACCEPTED;
 use dsp_types::BAD_BIT;
 use dsp_types::BAD_LENGTH;
 use dsp_types::BAD_TRAINING;
-pub use line::Asked;
 pub use line::behind;
 pub use line::push;
-pub use line::read;
+pub use slot::Complaint;
+pub use slot::LineSlot;
+pub use slot::slot_of;
 use slotter::Answer;
 use slotter::Burst;
 ghost use mathlib.Core.Path.{_≡_};
@@ -34,10 +36,10 @@ pub fn type_of(letter: u8) -> u32
 }
 
 // How many characters the blocks of a type have.
-fn wanted_length(kind: u32) -> usize
-    ensures { λ r. ⌜ r ≡ wanted kind ⌝ }
+fn wanted_length(burst_type: u32) -> usize
+    ensures { λ r. ⌜ r ≡ wanted «burst_type» ⌝ }
 {
-    if kind == 4 { 366 } else { 462 }
+    if burst_type == 4 { 366 } else { 462 }
 }
 
 // Whether some character is other than 0 and 1.
@@ -59,17 +61,17 @@ pub fn not_character(c: u8) -> bool
 }
 
 // Whether the characters behind a letter of that type are too few or too many. For another letter no length is judged.
-fn wrong_length(kind: u32, characters: &[u8]) -> bool
-    ensures { λ r. ⌜ r ≡ wrongCount kind (now (characters .entry)) ⌝ }
+fn wrong_length(burst_type: u32, characters: &[u8]) -> bool
+    ensures { λ r. ⌜ r ≡ wrongCount «burst_type» (now (characters .entry)) ⌝ }
 {
-    (kind != 0) & (characters.len() != wanted_length(kind))
+    (burst_type != 0) & (characters.len() != wanted_length(burst_type))
 }
 
 // The refusal of the characters behind a letter of that type: 3, 4, 5 for another letter, else 0.
-fn refusal_of(kind: u32, characters: &[u8]) -> u32
-    ensures { λ r. ⌜ r ≡ refusalOf kind (now (characters .entry)) ⌝ }
+fn refusal_of(burst_type: u32, characters: &[u8]) -> u32
+    ensures { λ r. ⌜ r ≡ refusalOf «burst_type» (now (characters .entry)) ⌝ }
 {
-    let wrong = wrong_length(kind, characters);
+    let wrong = wrong_length(burst_type, characters);
     let bad = not_characters(characters);
     if wrong {
         return BAD_LENGTH;
@@ -77,7 +79,11 @@ fn refusal_of(kind: u32, characters: &[u8]) -> u32
     if bad {
         return BAD_BIT;
     }
-    if kind == 0 { BAD_TRAINING } else { ACCEPTED }
+    if burst_type == 0 {
+        BAD_TRAINING
+    } else {
+        ACCEPTED
+    }
 }
 
 // The bit that a character stands for.
@@ -100,30 +106,30 @@ fn bits_of(characters: &[u8]) -> [u8; 462]
 }
 
 // The burst of a type, from the characters of its blocks.
-fn burst_of(kind: u32, characters: &[u8]) -> Burst
-    requires { ⌜ length (now characters) ≡ wanted kind ⌝ }
-    ensures { λ r. ⌜ builderReply r ≡ burstOf kind (map characterBit (now (characters .entry))) ⌝ }
+fn burst_of(burst_type: u32, characters: &[u8]) -> Burst
+    requires { ⌜ length (now characters) ≡ wanted «burst_type» ⌝ }
+    ensures { λ r. ⌜ builderReply r ≡ burstOf «burst_type» (map characterBit (now (characters .entry))) ⌝ }
 {
     let all = bits_of(characters);
     let bits: &[u8] = &all;
-    if kind == 4 {
+    if burst_type == 4 {
         slotter::build_sdb(&bits[0..120], &bits[120..150], &bits[150..366])
     } else {
-        slotter::build_ndb(kind, &bits[0..216], &bits[216..246], &bits[246..462])
+        slotter::build_ndb(burst_type, &bits[0..216], &bits[216..246], &bits[246..462])
     }
 }
 
 // The burst of a type, 4 sync, 1 or 2 normal, from its blocks' bits in burst order as characters 0 and 1, or their
 // refusal: 3, 4, or 5 for another type. For type 0, another letter, no length is judged.
-pub fn answer(kind: u32, characters: &[u8]) -> Burst
-    ensures { λ r. ⌜ builderReply r ≡ answerOf kind (now (characters .entry)) ⌝ }
+pub fn answer(burst_type: u32, characters: &[u8]) -> Burst
+    ensures { λ r. ⌜ builderReply r ≡ answerOf «burst_type» (now (characters .entry)) ⌝ }
 {
-    let number = refusal_of(kind, characters);
+    let number = refusal_of(burst_type, characters);
     if number != ACCEPTED {
         return Burst {
             answer: Answer::Refused(number),
             bits: [0; 510],
         };
     }
-    burst_of(kind, characters)
+    burst_of(burst_type, characters)
 }

@@ -5,7 +5,7 @@ ghost use Prim.Native.Nat.{ℕ};
 ghost use lib.ListN.{length, take, drop};
 ghost use Rattle.block_text.specs.Lines.{startsWith, askedOf, asked, sentOf};
 
-pub enum Asked {
+pub(crate) enum Asked {
     // An empty line, or a remark.
     Nothing,
     // A slot without a burst.
@@ -35,7 +35,7 @@ pub fn behind(line: &[u8], at: usize) -> &[u8]
     }
 }
 
-pub fn read(line: &[u8]) -> Asked
+pub(crate) fn read(line: &[u8]) -> Asked
     ensures { λ r. ⌜ askedOf (now (line .entry)) r ≡ asked (now (line .entry)) ⌝ }
 {
     if line.len() == 0 {

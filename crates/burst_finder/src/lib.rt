@@ -119,7 +119,7 @@ pub fn find_sync(bits: &[u8]) -> Found
 }
 
 impl Finding {
-    pub fn not_found() -> Finding
+    fn not_found() -> Finding
         ensures { λ r. ⌜ r ≡ notFound ⌝ }
     {
         Finding {

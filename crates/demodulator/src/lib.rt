@@ -4,7 +4,6 @@ use dsp_types::ComplexSample;
 use dsp_types::SampleCount;
 use history::History;
 use receiver::State;
-use receiver::Stop;
 use slot_receiver::Answer;
 use slot_receiver::Mode;
 use slot_receiver::TakeAnswer;
@@ -14,7 +13,6 @@ ghost use Prim.Native.Nat.{ℕ};
 ghost use Rattle.slot_receiver.specs.Receiver.{new};
 ghost use Rattle.slot_receiver.specs.Calls.{sampleOutcome, takeOutcome, followOutcome, replyOf, takeReplyOf, inNumbers};
 ghost use Rattle.slot_receiver.specs.View.{modeNumber, modeOf, modeFollowing};
-ghost use Rattle.receiver.specs.Feed.{interleaved, feedOf};
 ghost use Rattle.demodulator.specs.View.{viewOf};
 
 #[repr(C)]
@@ -25,12 +23,6 @@ pub struct Demodulator {
 
 pub struct Answered {
     pub answer: Answer,
-    pub receiver: Demodulator,
-}
-
-pub struct Fed {
-    pub taken: usize,
-    pub stop: Stop,
     pub receiver: Demodulator,
 }
 
@@ -65,32 +57,6 @@ impl Demodulator {
         let next = sampled.state;
         Answered {
             answer,
-            receiver: Demodulator {
-                state: next,
-                past: History { re, im, abs },
-            },
-        }
-    }
-
-    // Takes samples, re and im in turn, with the counters from first on: up to one that hands a slot over, or to one
-    // that is refused, which is not taken. Where none is taken, the receiver stays as it is.
-    pub fn feed(self, samples: &[f32], first: SampleCount) -> Fed
-        ensures taken { λ r. ⌜ r .taken ≡ feedOf (viewOf self) (interleaved (now (samples .entry))) (first .0) .taken ⌝ }
-        ensures stop { λ r. ⌜ r .stop ≡ feedOf (viewOf self) (interleaved (now (samples .entry))) (first .0) .stop ⌝ }
-        ensures receiver { λ r. ⌜ viewOf (r .receiver) ≡ feedOf (viewOf self) (interleaved (now (samples .entry))) (first .0) .receiver ⌝ }
-        ensures refused { λ r. ⌜ (r .taken ≡ 0 → r .receiver ≡ self) ⌝ }
-    {
-        let state = self.state;
-        let past = self.past;
-        let mut re = past.re;
-        let mut im = past.im;
-        let mut abs = past.abs;
-        let fed = state.feed(&mut re, &mut im, &mut abs, samples, first);
-        let stop = fed.stop;
-        let next = fed.state;
-        Fed {
-            taken: fed.taken,
-            stop,
             receiver: Demodulator {
                 state: next,
                 past: History { re, im, abs },

@@ -1,7 +1,7 @@
 -- Laws of integers for `omega`, which reads native ℕ alone: at `pos n` and `negsuc n` up and dn compute, and a sum of integers is brought in by
 -- `sum x y`. Assumes nothing.
 use mathlib.Core.Path.{_≡_, refl, ap}
-use mathlib.Core.Bool.{Bool, true, false, cond}
+use mathlib.Core.Bool.{Bool, true, false, cond, true≢false}
 use Prim.Native.Nat.{ℕ, zero, suc, _+_, _-_, _≤_, _<_}
 use native.Mathlib.Omega.{arith}
 use lib.IntN.{ℤ, pos, negsuc, negℤ, subℕ, _+ℤ_, _-ℤ_}
@@ -66,9 +66,6 @@ ltZ-no (pos a) (negsuc b) h = refl
 ltZ-no (negsuc a) (pos b) h = absurd (omega arith)
 ltZ-no (negsuc a) (negsuc b) h = le-ltb b a (omega arith)
 
-true-ne : true ≡ false → ⊥
-true-ne e = let z : _≡_ {A = ℕ} 0 1 = cc in omega arith
-
 pub ltZ-true : (x y : ℤ) → ltZ x y ≡ true → up x + dn y < up y + dn x
 ltZ-true (pos a) (pos b) e = omega (arith, ltb-true a b e)
 ltZ-true (pos a) (negsuc b) e = absurd (let z : _≡_ {A = ℕ} 0 1 = cc in omega arith)
@@ -78,7 +75,7 @@ ltZ-true (negsuc a) (negsuc b) e = omega (arith, ltb-true b a e)
 pub ltZ-false : (x y : ℤ) → ltZ x y ≡ false → up y + dn x ≤ up x + dn y
 ltZ-false (pos a) (pos b) e = omega (arith, ltb-false a b e)
 ltZ-false (pos a) (negsuc b) e = omega arith
-ltZ-false (negsuc a) (pos b) e = absurd (true-ne e)
+ltZ-false (negsuc a) (pos b) e = absurd (true≢false e)
 ltZ-false (negsuc a) (negsuc b) e = omega (arith, ltb-false b a e)
 
 pub eqZ-yes : (x y : ℤ) → up x + dn y ≡ up y + dn x → eqZ x y ≡ true

@@ -1,6 +1,6 @@
 -- Laws of slot numbers and of the tests that several calls share. Assumes nothing.
-use mathlib.Core.Path.{_≡_, refl, subst}
-use mathlib.Core.Bool.{Bool, true, false, not, _||_}
+use mathlib.Core.Path.{_≡_, refl, sym, subst}
+use mathlib.Core.Bool.{Bool, true, false, not, _&&_, _||_, true≢false}
 use mathlib.Core.List.{List}
 use Prim.Native.Nat.{ℕ, _<_}
 use native.Mathlib.Nat.{mod-lt}
@@ -10,7 +10,7 @@ use lib.IntN.{ℤ, pos, negsuc}
 use lib.Ieee.{Float, nan, inf, fin, ne, isNan}
 use lib.ListN.{length}
 use lib.Signed.{ltZ}
-use borrow.Author.Tests.{eqb-true, le-ltb}
+use borrow.Author.Tests.{eqb-true, le-ltb, not-false}
 use Rattle.dsp_types.specs.Refusals.{lastCounter, outOfCount, wrongLength}
 use Rattle.dsp_types.specs.Times.{slots, slotOf}
 
@@ -25,9 +25,14 @@ unfolding outOfCount
 out-of-count (pos n) = rw (le-ltb n 0 (omega arith))
 out-of-count (negsuc n) = refl
 
-not-false : (b : Bool) → not b ≡ false → b ≡ true
-not-false true e = refl
-not-false false e = absurd (let z : _≡_ {A = ℕ} 0 1 = cc in omega arith)
+-- of two tests neither passes, or both do
+pub neither : (a b : Bool) → (a || b) ≡ false → (a ≡ false) × (b ≡ false)
+neither true b e = absurd (true≢false e)
+neither false b e = (refl, e)
+
+pub both-true : (a b : Bool) → (a && b) ≡ true → (a ≡ true) × (b ≡ true)
+both-true true b e = (refl, e)
+both-true false b e = absurd (true≢false (sym e))
 
 pub right-length : {A : Type 0} (n : ℕ) (xs : List A) → wrongLength n xs ≡ false → length xs ≡ n
 unfolding wrongLength

@@ -1,4 +1,4 @@
-mod Signs
+pub mod Signs
 mod Bits
 pub mod Fitting
 pub mod IntLaws

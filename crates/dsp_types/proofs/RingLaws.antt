@@ -2,7 +2,7 @@
 -- the element type. Assumes nothing.
 use mathlib.Core.Path.{_≡_, refl, sym, ap, _∙_}
 use mathlib.Core.Logic.{_⊎_, inl, inr, ⊎-elim, _≢_}
-use Prim.Native.Nat.{ℕ, zero, suc, _+_, _-_, _<_, _≤_, zero-le, suc-le-suc}
+use Prim.Native.Nat.{ℕ, zero, suc, _+_, _-_, _%_, _<_, _≤_, zero-le, suc-le-suc}
 use native.Mathlib.Nat.{mod-eq-of-lt, add-mod-right, mod-self, mod-lt}
 use native.Mathlib.Omega.{arith}
 use mathlib.Core.List.{List, _∷_}
@@ -10,8 +10,23 @@ use lib.ListN.{length, getD, set, take, replicate, getD-replicate}
 use lib.Seq.{getD-set-same, getD-set-other}
 use lib.Ieee.{Float, nan}
 use Rattle.dsp_types.specs.declared.ComplexSample.{ComplexSample}
-use Rattle.dsp_types.specs.Samples.{oneLater, ago, zeroF, silence}
-use Rattle.dsp_types.specs.Ring.{placeOf, next, ringAt, ringSample, Agree, newest}
+use Rattle.dsp_types.specs.Samples.{ago, zeroF, silence}
+use Rattle.dsp_types.specs.Ring.{placeOf, ringAt, ringSample, newest}
+
+-- ---- what the laws speak of
+
+-- the place after `at`
+unfoldable pub next : ℕ → ℕ → ℕ
+next n at = (at + 1) % n
+
+-- two records agree on their newest n elements
+abbrev pub Agree : {A : Type 0} → ℕ → (ℕ → A) → (ℕ → A) → Type 0
+Agree n f g = (d : ℕ) → d < n → f d ≡ g d
+
+-- the record f, one call later: x is the newest now
+abbrev pub oneLater : {A : Type 0} → A → (ℕ → A) → ℕ → A
+oneLater x f zero = x
+oneLater x f (suc j) = f j
 
 pub le-or-lt : (a b : ℕ) → (a ≤ b) ⊎ (b < a)
 le-or-lt zero b = inl zero-le
@@ -82,22 +97,8 @@ ring-later z n buf at x w h zero k =
 ring-later z n buf at x w h (suc d) k =
     rw (place-older n at d h k) (getD-set-other buf (next n at) (placeOf n at d) x z (place-apart n at d h k))
 
--- what is newer than a list's elements is the list with one more
-pub later-ago : {A : Type 0} (x z : A) (xs : List A) (d : ℕ) → oneLater x (ago z xs) d ≡ ago z (x ∷ xs) d
-later-ago x z xs zero = refl
-later-ago x z xs (suc d) = refl
+-- ---- rings of zeros
 
--- ---- two rings that hold the parts of samples, with one index
-
-pub sample-later : (n : ℕ) (re im : List Float) (at : ℕ) (x : ComplexSample) → length re ≡ n → length im ≡ n → at < n
-    → Agree n (ringSample n (set re (next n at) (x .re)) (set im (next n at) (x .im)) (next n at)) (oneLater x (ringSample n re im at))
-unfolding ringSample
-sample-later n re im at x v w h zero k =
-    λ i. record { re = ring-later nan n re at (x .re) v h zero k i; im = ring-later nan n im at (x .im) w h zero k i }
-sample-later n re im at x v w h (suc d) k =
-    λ i. record { re = ring-later nan n re at (x .re) v h (suc d) k i; im = ring-later nan n im at (x .im) w h (suc d) k i }
-
--- rings of zeros
 pub ring-zeros : (n : ℕ) → 0 < n → (d : ℕ) → ringAt nan n (replicate n zeroF) 0 d ≡ zeroF
 unfolding ringAt
 ring-zeros n h d = getD-replicate n (placeOf n 0 d) zeroF nan (place-lt n 0 d h)

@@ -1,7 +1,6 @@
 -- A ring of n elements whose newest stands at `at`, over any length and element type: the filter line is a ring of 32, the past one of 2,048.
 -- Definitions only; proofs/RingLaws has the laws.
-use Prim.Native.Nat.{ℕ, zero, suc, _+_, _-_, _%_, _<_}
-use mathlib.Core.Path.{_≡_}
+use Prim.Native.Nat.{ℕ, zero, suc, _+_, _-_, _%_}
 use mathlib.Core.List.{List, [], _∷_}
 use lib.ListN.{getD}
 use lib.Ieee.{Float, nan}
@@ -11,10 +10,6 @@ use Rattle.dsp_types.specs.declared.ComplexSample.{ComplexSample}
 unfoldable pub placeOf : ℕ → ℕ → ℕ → ℕ
 placeOf n at d = (at + n - d) % n
 
--- the place after `at`
-unfoldable pub next : ℕ → ℕ → ℕ
-next n at = (at + 1) % n
-
 -- what the ring holds d steps ago
 unfoldable pub ringAt : {A : Type 0} → A → ℕ → List A → ℕ → ℕ → A
 ringAt z n buf at d = getD buf (placeOf n at d) z
@@ -22,10 +17,6 @@ ringAt z n buf at d = getD buf (placeOf n at d) z
 -- two rings that hold the parts of samples, with one index
 unfoldable pub ringSample : ℕ → List Float → List Float → ℕ → ℕ → ComplexSample
 ringSample n re im at d = record { re = ringAt nan n re at d; im = ringAt nan n im at d }
-
--- two records agree on their newest n elements
-abbrev pub Agree : {A : Type 0} → ℕ → (ℕ → A) → (ℕ → A) → Type 0
-Agree n f g = (d : ℕ) → d < n → f d ≡ g d
 
 -- the newest n of a record, newest first. Keep it shut at a large numeral n: it would be written out
 unfoldable pub newest : {A : Type 0} → ℕ → (ℕ → A) → List A

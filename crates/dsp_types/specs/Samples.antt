@@ -1,5 +1,5 @@
 -- What every stage says of samples: silence, and the sample j calls ago (01, "Samples and the filter line").
-use Prim.Native.Nat.{ℕ, zero, suc}
+use Prim.Native.Nat.{ℕ}
 use mathlib.Core.List.{List}
 use lib.ListN.{getD}
 use lib.Ieee.{Float, binary32, ofBits}
@@ -19,8 +19,3 @@ silence = record { re = zeroF; im = zeroF }
 -- in(j), the element j calls ago of a record that is kept newest first; older ones are z
 abbrev pub ago : {A : Type 0} → A → List A → ℕ → A
 ago z xs j = getD xs j z
-
--- the record f, one call later: x is the newest now
-abbrev pub oneLater : {A : Type 0} → A → (ℕ → A) → ℕ → A
-oneLater x f zero = x
-oneLater x f (suc j) = f j

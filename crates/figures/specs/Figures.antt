@@ -4,8 +4,9 @@ use mathlib.Core.List.{List, [], _∷_}
 use lib.IntN.{ℤ, pos, negsuc}
 use lib.ListN.{getD, replicate}
 use lib.Seq.{slice}
-use lib.Ieee.{Float, binary32, ofBits, ofInt}
+use lib.Ieee.{Float, binary32, ofInt}
 use Rattle.magnitude.specs.Magnitude.{magnitudeOf}
+use Rattle.timing.specs.Floats.{halfF}
 use Rattle.timing.specs.Turns.{quarterTurns}
 use Rattle.slotter.specs.Bursts.{BuilderReply, syncBurst, normalBurst}
 
@@ -31,12 +32,9 @@ pub data Value : Type 0 where
   adjusted : ℤ → List ℕ → Value
   float : Float → Value
 
--- a whole number as an f32, and 0.5
+-- a whole number as an f32
 unfoldable pub f32 : ℤ → Float
 f32 z = ofInt binary32 z
-
-abbrev pub half : Float
-half = ofBits binary32 0x3f00_0000
 
 -- what the builders' definitions give for zero blocks
 unfoldable pub burst : ZeroBurst → BuilderReply
@@ -45,13 +43,13 @@ burst normal1 = normalBurst 1 (replicate 216 0) (replicate 30 0) (replicate 216 
 burst normal2 = normalBurst 2 (replicate 216 0) (replicate 30 0) (replicate 216 0)
 
 unfoldable pub computed : Figure → Value
-computed (window kind first sum bits) = adjusted (getD (burst kind .sums) 0 (pos 0)) (slice 12 14 (burst kind .bits))
-computed (window kind last sum bits) = adjusted (getD (burst kind .sums) 1 (pos 0)) (slice 498 500 (burst kind .bits))
+computed (window sent first sum bits) = adjusted (getD (burst sent .sums) 0 (pos 0)) (slice 12 14 (burst sent .bits))
+computed (window sent last sum bits) = adjusted (getD (burst sent .sums) 1 (pos 0)) (slice 498 500 (burst sent .bits))
 computed (magnitude re im r) = float (magnitudeOf re im)
 computed (timing i q r) = float (quarterTurns i q)
 
 unfoldable pub stated : Figure → Value
-stated (window kind w sum bits) = adjusted sum bits
+stated (window sent w sum bits) = adjusted sum bits
 stated (magnitude re im r) = float r
 stated (timing i q r) = float r
 
@@ -64,7 +62,7 @@ figures =
     ∷ window normal2 last (pos 115) (1 ∷ 1 ∷ [])
     ∷ magnitude (f32 (pos 3)) (f32 (pos 4)) (f32 (pos 5))
     ∷ magnitude (f32 (pos 0)) (f32 (pos 0)) (f32 (pos 0))
-    ∷ timing (f32 (pos 1)) (f32 (pos 1)) half
+    ∷ timing (f32 (pos 1)) (f32 (pos 1)) halfF
     ∷ timing (f32 (negsuc 0)) (f32 (pos 0)) (f32 (pos 2))
     ∷ timing (f32 (pos 0)) (f32 (negsuc 0)) (f32 (pos 3))
     ∷ timing (f32 (pos 0)) (f32 (pos 0)) (f32 (pos 0))

@@ -107,7 +107,7 @@ rows-outs re im (x ∷ xs) (y ∷ ys) v w e =
 
 -- ---- the block that is taken
 
-length-samples : (xs ys : List Float) → length (samplesOf xs ys) ≡ min (length xs) (length ys)
+pub length-samples : (xs ys : List Float) → length (samplesOf xs ys) ≡ min (length xs) (length ys)
 unfolding samplesOf
 length-samples [] ys = sym (zero-min (length ys))
 length-samples (x ∷ xs) [] = sym (min-zero (suc (length xs)))

@@ -9,9 +9,9 @@ use lib.ListN.{getD, length, set, take, drop, replicate, getD-replicate, length-
 use lib.Seq.{drop-cons, drop-drop, take-all, getD-at, getD-drop, getD-set-same, getD-set-other, set-at, append-snoc}
 use lib.Ieee.{Float, binary32, add, mul, nan}
 use Rattle.dsp_types.specs.declared.ComplexSample.{ComplexSample}
-use Rattle.dsp_types.specs.Samples.{zeroF, silence, ago, oneLater}
-use Rattle.dsp_types.specs.Ring.{Agree, newest}
-use Rattle.dsp_types.proofs.RingLaws.{le-or-lt, newest-later, newest-at}
+use Rattle.dsp_types.specs.Samples.{zeroF, silence, ago}
+use Rattle.dsp_types.specs.Ring.{newest}
+use Rattle.dsp_types.proofs.RingLaws.{Agree, oneLater, le-or-lt, newest-later, newest-at}
 use Rattle.fir.specs.Fir.{taps, termOf, laneUpTo, laneOf, firOf, filterOf, inRow, rowOuts}
 use Rattle.fir.proofs.Laws.{filter-cong}
 

@@ -1,5 +1,4 @@
 -- The filter (01, "Samples and the filter line"): f j is one part of in(j), the sample j calls ago.
-use mathlib.Core.Path.{_≡_}
 use mathlib.Core.List.{List, [], _∷_, _++_, map}
 use Prim.Native.Nat.{ℕ, zero, suc, _+_, _-_, _*_, min}
 use lib.ListN.{getD, length, take, drop}
@@ -39,11 +38,6 @@ firOf f = add binary32 (add binary32 (add binary32 (laneOf f 0) (laneOf f 1)) (l
 unfoldable pub filterOf : (ℕ → ComplexSample) → ComplexSample
 filterOf f = record { re = firOf (λ j. f j .re); im = firOf (λ j. f j .im) }
 
--- all samples so far, filtered; both lists newest first
-unfoldable pub filteredOf : List ComplexSample → List ComplexSample
-filteredOf [] = []
-filteredOf (x ∷ xs) = filterOf (ago silence (x ∷ xs)) ∷ filteredOf xs
-
 -- ---- the line: its newest 32 inputs, newest first
 
 -- in(j) of one part that is kept oldest first, with the newest sample at 31
@@ -52,10 +46,6 @@ inRow row j = getD row (31 - j) nan
 
 unfoldable pub lineOf : FirComplexSym → List ComplexSample
 lineOf l = newest 32 (λ j. record { re = inRow (l .re) j; im = inRow (l .im) j })
-
--- `line` is the newest 32 of xs, the list of all inputs so far, newest first
-pub record LineOf (line xs : List ComplexSample) : Type 0 where
-  pub held : line ≡ newest 32 (ago silence xs)
 
 -- ---- a block: xs are its samples, oldest first
 

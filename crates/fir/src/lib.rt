@@ -9,7 +9,7 @@ ghost use Rattle.dsp_types.specs.Samples.{silence, ago};
 ghost use Rattle.fir.specs.Fir.{firOf, filterOf, inRow, lineOf, rowOuts, filterRow, startWith, lineAfter, outsOf, blockOf, reOf, imOf};
 
 // Channel filter taps (modem_common.rs).
-pub const CHANNEL_FILTER_TAPS: [f32; 16] = [
+const CHANNEL_FILTER_TAPS: [f32; 16] = [
     0.2649718,
     0.20002119,
     0.10064187,

@@ -1,20 +1,20 @@
 -- The laws of the past that callers go by: a store at the next place makes a newest element, and the rings hold the newest 2,048 of a list.
 -- Those of rings are over any length: at 2,048 they are only applied. Assumes nothing.
 use mathlib.Core.Path.{_≡_, refl, sym, ap, _∙_}
-use mathlib.Core.List.{List, [], _∷_, _++_, map, reverseAux}
+use mathlib.Core.List.{List, [], _∷_, _++_, map}
 use Prim.Native.Nat.{ℕ, zero, suc, _+_, _-_, _%_, _<_}
 use native.Mathlib.Nat.{mod-lt, mod-eq-of-lt, mod-mod, mod-add-mod}
 use native.Mathlib.Omega.{arith}
 use native.Mathlib.Numerals.{add-one}
 use lib.Dec.{lit<}
-use lib.ListN.{length, getD, set, take, replicate, List·getD-map}
+use lib.ListN.{length, getD, set, take, List·getD-map}
 use lib.Seq.{take-suc}
 use lib.Ieee.{Float, nan}
 use Rattle.dsp_types.specs.declared.ComplexSample.{ComplexSample}
 use Rattle.dsp_types.specs.Samples.{zeroF, silence, ago}
-use Rattle.dsp_types.specs.Ring.{placeOf, ringAt, ringSample, next, newest}
-use Rattle.dsp_types.proofs.RingLaws.{newest-later, later-ago, ring-later, sample-later, newest-same, newest-at}
-use Rattle.history.specs.History.{heldIn, samplesIn, heldAfter, PastOf, AbsOf}
+use Rattle.dsp_types.specs.Ring.{placeOf, ringAt, ringSample, newest}
+use Rattle.dsp_types.proofs.RingLaws.{next, newest-later, ring-later, newest-at}
+use Rattle.history.specs.History.{heldIn, samplesIn, heldAfter}
 
 -- ---- rings of any length, with an index that counts modulo it
 
@@ -24,24 +24,12 @@ unfolding next
 ring-write n ring at x w h =
     rw (mod-eq-of-lt (mod-lt (at % n + 1) h)) (newest-later n x (ring-later nan n ring (at % n) x w (mod-lt at h)))
 
-sample-write : (n : ℕ) (re im : List Float) (at : ℕ) (x : ComplexSample) → length re ≡ n → length im ≡ n → 0 < n
-    → newest n (ringSample n (set re ((at % n + 1) % n) (x .re)) (set im ((at % n + 1) % n) (x .im)) (((at % n + 1) % n) % n))
-    ≡ take n (x ∷ newest n (ringSample n re im (at % n)))
-unfolding next
-sample-write n re im at x v w h =
-    rw (mod-eq-of-lt (mod-lt (at % n + 1) h)) (newest-later n x (sample-later n re im (at % n) x v w (mod-lt at h)))
-
 -- ---- what a store at the next place does
 
 pub held-write : (ring : List Float) (at : ℕ) (x : Float) → length ring ≡ 2048
     → heldIn (set ring ((at % 2048 + 1) % 2048) x) ((at % 2048 + 1) % 2048) ≡ take 2048 (x ∷ heldIn ring at)
 unfolding heldIn
 held-write ring at x w = ring-write 2048 ring at x w (lit< tt)
-
-pub samples-write : (re im : List Float) (at : ℕ) (x : ComplexSample) → length re ≡ 2048 → length im ≡ 2048
-    → samplesIn (set re ((at % 2048 + 1) % 2048) (x .re)) (set im ((at % 2048 + 1) % 2048) (x .im)) ((at % 2048 + 1) % 2048) ≡ take 2048 (x ∷ samplesIn re im at)
-unfolding samplesIn
-samples-write re im at x v w = sample-write 2048 re im at x v w (lit< tt)
 
 -- ---- an element of a ring
 
@@ -139,40 +127,3 @@ samples-after re im re′ im′ at at′ ys a b =
     same-parts (samplesIn re′ im′ at′) (heldAfter (samplesIn re im at) ys)
     (re-held re′ im′ at′ ∙ a ∙ rw (← re-held re im at) (sym (map-after (λ s. s .re) (samplesIn re im at) ys)))
     (im-held re′ im′ at′ ∙ b ∙ rw (← im-held re im at) (sym (map-after (λ s. s .im) (samplesIn re im at) ys)))
-
--- ---- the past against the list of all filtered samples so far
-
-pub past-new : PastOf (replicate 2048 silence) []
-past-new = record { held = sym (newest-same 2048 silence (λ d k. refl)) }
-
-module _ {past ys : List ComplexSample} (h : PastOf past ys) where
-  pub past-write : (y : ComplexSample) → PastOf (take 2048 (y ∷ past)) (y ∷ ys)
-  past-write y = record { held = rw (h .held) (sym (newest-later 2048 y (λ d k. sym (later-ago y silence ys d)))) }
-
-  pub past-delayed : (d : ℕ) → d < 2048 → ago silence past d ≡ ago silence ys d
-  past-delayed d k = rw (h .held) (newest-at 2048 (ago silence ys) silence d k)
-
-pub past-after : (xs : List ComplexSample) {past ys : List ComplexSample} → PastOf past ys → PastOf (heldAfter past xs) (reverseAux xs ys)
-unfolding heldAfter
-past-after [] h = h
-past-after (x ∷ xs) h = past-after xs (past-write h x)
-
--- ---- the magnitudes
-
-module _ (mag : ComplexSample → Float) (e : mag silence ≡ zeroF) where
-  pub abs-new : AbsOf mag (replicate 2048 silence) (replicate 2048 zeroF)
-  abs-new = record { held = sym (same 2048) }
-    where
-      same : (n : ℕ) → map mag (replicate n silence) ≡ replicate n zeroF
-      same zero = refl
-      same (suc n) = λ i. e i ∷ same n i
-
-  module _ {past : List ComplexSample} {abs : List Float} (h : AbsOf mag past abs) where
-    pub abs-write : (x : ComplexSample) → AbsOf mag (take 2048 (x ∷ past)) (take 2048 (mag x ∷ abs))
-    abs-write x = record { held = rw (h .held) (sym (map-take mag 2048 (x ∷ past))) }
-
-    pub abs-after : (xs : List ComplexSample) → AbsOf mag (heldAfter past xs) (heldAfter abs (map mag xs))
-    abs-after xs = record { held = rw (h .held) (sym (map-after mag past xs)) }
-
-    pub abs-delayed : (d : ℕ) → ago zeroF abs d ≡ mag (ago silence past d)
-    abs-delayed d = ap (λ (z : Float). ago z abs d) (sym e) ∙ rw (h .held) (List·getD-map mag past d silence)

@@ -1,11 +1,9 @@
 -- The past (01, "The past"; history.rs): what its rings hold, as lists, newest first. Any index counts modulo 2,048.
-use mathlib.Core.Path.{_≡_}
-use mathlib.Core.List.{List, [], _∷_, map}
+use mathlib.Core.List.{List, [], _∷_}
 use Prim.Native.Nat.{ℕ, _%_}
 use lib.ListN.{take}
 use lib.Ieee.{Float, nan}
 use Rattle.dsp_types.specs.declared.ComplexSample.{ComplexSample}
-use Rattle.dsp_types.specs.Samples.{silence, ago}
 use Rattle.dsp_types.specs.Ring.{ringAt, ringSample, newest}
 
 -- the elements of a ring whose newest stands at `at`
@@ -20,11 +18,3 @@ samplesIn re im at = newest 2048 (ringSample 2048 re im (at % 2048))
 unfoldable pub heldAfter : {A : Type 0} → List A → List A → List A
 heldAfter held [] = held
 heldAfter held (x ∷ xs) = heldAfter (take 2048 (x ∷ held)) xs
-
--- `past` is the newest 2,048 of ys, the list of all filtered samples so far, newest first
-pub record PastOf (past ys : List ComplexSample) : Type 0 where
-  pub held : past ≡ newest 2048 (ago silence ys)
-
--- `abs` has the magnitude of each sample of the past, as `mag` gives it
-pub record AbsOf (mag : ComplexSample → Float) (past : List ComplexSample) (abs : List Float) : Type 0 where
-  pub held : abs ≡ map mag past

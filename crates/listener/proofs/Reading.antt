@@ -15,7 +15,7 @@ use Rattle.slot_bits.specs.SlotBits.{slotBits}
 use Rattle.slot_bits.proofs.Laws.{bits-front}
 use Rattle.listener.specs.Signal.{Signal, timingOf, bitsOf}
 use Rattle.dsp_types.specs.declared.ComplexSample.{ComplexSample}
-use Rattle.listener.specs.declared.window.Window.{Window}
+use Rattle.listener.specs.declared.window.Reading.{Reading}
 use Rattle.listener.specs.View.{signalFrom, Reads}
 
 module _ (inputs : List ComplexSample) (re im abs : List Float) (index d n : ℕ) (starts : d < 2048) (symbols : n ≤ 256) where
@@ -34,6 +34,6 @@ module _ (inputs : List ComplexSample) (re im abs : List Float) (index d n : ℕ
       b ∙ rw (a, m, g, q, h, e)
 
 -- the window's bits without the zeros
-pub read-bits : {s : Signal} {d n : ℕ} {w : Window} → Reads s d n w → take (2 * (n - 1)) (w .bits) ≡ bitsOf s d n
+pub read-bits : {s : Signal} {d n : ℕ} {w : Reading} → Reads s d n w → take (2 * (n - 1)) (w .bits) ≡ bitsOf s d n
 unfolding bitsOf
 read-bits {s} {d} {n} read = rw (read .bits) (bits-front _ _ _ _ n _)

@@ -1,11 +1,12 @@
 -- A block of samples, filtered and stored at once, is the samples one by one. Assumes nothing.
-use mathlib.Core.Path.{_≡_, refl, sym, ap, _∙_}
+use mathlib.Core.Path.{_≡_, refl, ap, _∙_}
 use mathlib.Core.List.{List, [], _∷_, map}
 use Prim.Native.Nat.{ℕ, suc, _≤_, min}
 use native.Mathlib.Omega.{arith}
 use lib.ListN.{length, take, drop, length-take}
 use lib.Seq.{take-at}
 use lib.Ieee.{Float}
+use Rattle.fir.proofs.Blocks.{length-samples}
 use Rattle.fir.proofs.Laws.{length-outs, samples-parts}
 use Rattle.dsp_types.specs.declared.ComplexSample.{ComplexSample}
 use Rattle.fir.specs.Fir.{lineAfter, outsOf, samplesOf, blockOf, startWith, reOf, imOf}
@@ -29,14 +30,8 @@ sized (x ∷ re) (y ∷ im) (o ∷ out) e h = ap (λ (t : List Float). magnitude
 
 -- ---- the block that is filtered
 
-samples-long : (re im : List Float) → length (samplesOf re im) ≡ min (length re) (length im)
-unfolding samplesOf
-samples-long [] im = omega arith
-samples-long (x ∷ re) [] = omega arith
-samples-long (x ∷ re) (y ∷ im) = omega (arith, samples-long re im)
-
 pub block-long : (re im : List Float) → length (take 512 (samplesOf re im)) ≡ min (min (length re) (length im)) 512
-block-long re im = omega (arith, length-take 512 (samplesOf re im), samples-long re im)
+block-long re im = omega (arith, length-take 512 (samplesOf re im), length-samples re im)
 
 pub whole-block : (re im outRe outIm : List Float) → length outRe ≡ 512 → length outIm ≡ 512 → blockOf re im outRe outIm ≡ take 512 (samplesOf re im)
 unfolding blockOf

@@ -20,8 +20,8 @@ pub record Signal : Type 0 where
   pub magnitudes : List Float
 
 -- before any sample: zeros
-unfoldable pub quiet : Signal
-quiet = record { inputs = replicate 32 silence; past = replicate 2048 silence; magnitudes = replicate 2048 zeroF }
+unfoldable pub unheard : Signal
+unheard = record { inputs = replicate 32 silence; past = replicate 2048 silence; magnitudes = replicate 2048 zeroF }
 
 -- the filter's answer to one more sample
 unfoldable pub filtered : Signal → ComplexSample → ComplexSample

@@ -4,7 +4,7 @@ mod listen;
 mod window;
 
 use fir::FirComplexSym;
-pub use window::Window;
+pub use window::Reading;
 pub use window::first_half_window;
 pub use window::second_half_window;
 pub use window::slot_window;

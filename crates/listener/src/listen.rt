@@ -7,7 +7,7 @@ ghost use mathlib.Core.Path.{_≡_};
 ghost use lib.ListN.{take, replicate};
 ghost use Rattle.dsp_types.specs.Samples.{zeroF};
 ghost use Rattle.fir.specs.Fir.{samplesOf};
-ghost use Rattle.listener.specs.Signal.{quiet, hear, hearAll};
+ghost use Rattle.listener.specs.Signal.{unheard, hear, hearAll};
 ghost use Rattle.listener.specs.View.{signalOf};
 
 // So many samples are filtered at once: their rows fit the first level of cache.
@@ -16,7 +16,7 @@ const PIECE: usize = 512;
 impl Listener {
     // Its past is all zeros.
     pub fn new() -> Listener
-        ensures { λ r. ⌜ signalOf r (replicate 2048 zeroF) (replicate 2048 zeroF) (replicate 2048 zeroF) ≡ quiet ⌝ }
+        ensures { λ r. ⌜ signalOf r (replicate 2048 zeroF) (replicate 2048 zeroF) (replicate 2048 zeroF) ≡ unheard ⌝ }
     {
         Listener {
             matched_filter: FirComplexSym::new(),

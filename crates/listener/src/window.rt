@@ -5,7 +5,7 @@ ghost use Rattle.dsp_types.specs.declared.ComplexSample.{ComplexSample};
 ghost use Rattle.listener.specs.View.{signalFrom, Reads};
 
 // A window's symbol timing, and its bits with zeros behind them.
-pub struct Window {
+pub struct Reading {
     pub timing: f32,
     pub bits: [u8; 510],
 }
@@ -18,14 +18,14 @@ fn read_window<'a>(
     index: usize,
     d: usize,
     n: usize,
-) -> Window
+) -> Reading
     requires { ⌜ (d < 2048) × (n ≤ 256) ⌝ }
     ensures { λ r. ⌜ ((inputs : List ComplexSample) → Reads (signalFrom inputs (now (re .entry)) (now (im .entry)) (now (abs .entry)) index) d n r) ⌝ }
 {
     let t = timing::estimate_timing(abs, index, d, n);
     let first = timing::whole(t);
     let fract = timing::fract(t);
-    Window {
+    Reading {
         timing: t,
         bits: slot_bits::slot_bits(re, im, index, d, first, fract, n),
     }
@@ -37,7 +37,7 @@ pub fn slot_window<'a>(
     im: &'a [f32; 2048],
     abs: &'a [f32; 2048],
     index: usize,
-) -> Window
+) -> Reading
     ensures { λ r. ⌜ ((inputs : List ComplexSample) → Reads (signalFrom inputs (now (re .entry)) (now (im .entry)) (now (abs .entry)) index) 1024 256 r) ⌝ }
 {
     read_window(re, im, abs, index, 1024, 256)
@@ -49,7 +49,7 @@ pub fn first_half_window<'a>(
     im: &'a [f32; 2048],
     abs: &'a [f32; 2048],
     index: usize,
-) -> Window
+) -> Reading
     ensures { λ r. ⌜ ((inputs : List ComplexSample) → Reads (signalFrom inputs (now (re .entry)) (now (im .entry)) (now (abs .entry)) index) 1024 128 r) ⌝ }
 {
     read_window(re, im, abs, index, 1024, 128)
@@ -61,7 +61,7 @@ pub fn second_half_window<'a>(
     im: &'a [f32; 2048],
     abs: &'a [f32; 2048],
     index: usize,
-) -> Window
+) -> Reading
     ensures { λ r. ⌜ ((inputs : List ComplexSample) → Reads (signalFrom inputs (now (re .entry)) (now (im .entry)) (now (abs .entry)) index) 514 128 r) ⌝ }
 {
     read_window(re, im, abs, index, 514, 128)

@@ -1,6 +1,6 @@
 -- Inputs with the same listing, whatever follows: too many characters are too many, and behind another letter only a wrong character counts.
 use mathlib.Core.Path.{_≡_, refl, sym, ap, _∙_, subst}
-use mathlib.Core.Bool.{Bool, true, false, cond, _||_}
+use mathlib.Core.Bool.{Bool, true, false, cond, _||_, or-assoc}
 use mathlib.Core.List.{List, [], _∷_, _++_}
 use Prim.Native.Nat.{ℕ, _+_, _≤_, _<_}
 use native.Mathlib.Numerals.{add-one}
@@ -14,7 +14,6 @@ use Rattle.slotter.specs.Bursts.{refusal}
 use Rattle.text.specs.Text.{trimmed}
 use Rattle.text.proofs.Trimming.{trimmed-append, trimmed-length}
 use Rattle.block_text.specs.BlockText.{letterType, wanted, notCharacter, notCharacters, wrongCount, refusalOf, answerOf}
-use Rattle.block_text.proofs.Characters.{or-assoc}
 use Rattle.block_text.proofs.Blocks.{wanted-most}
 use Rattle.lister.specs.Listing.{listedAnswer, listed, listing}
 
@@ -50,7 +49,7 @@ or-true false = refl
 not-append : (xs ys : List ℕ) → notCharacters (xs ++ ys) ≡ (notCharacters xs || notCharacters ys)
 unfolding notCharacters
 not-append [] ys = refl
-not-append (x ∷ xs) ys = ap (λ (b : Bool). notCharacter x || b) (not-append xs ys) ∙ or-assoc (notCharacter x) (notCharacters xs) (notCharacters ys)
+not-append (x ∷ xs) ys = ap (λ (b : Bool). notCharacter x || b) (not-append xs ys) ∙ sym (or-assoc (notCharacter x) (notCharacters xs) (notCharacters ys))
 
 -- the last character p, and then b: what is kept is b and whether p counts
 module _ (l x p b : ℕ) (ys t : List ℕ) (n : length ys ≡ 462) where

@@ -37,13 +37,13 @@ fn refused(number: u32) -> Text
 }
 
 // What is printed of a burst.
-fn built(kind: u32, first: i32, last: i32, burst: [u8; 510]) -> Text
-    ensures { λ r. ⌜ Counts (r .len) (r .bytes) × (textOf r ≡ cut (burstLines kind first last burst)) ⌝ }
+fn built(burst_type: u32, first: i32, last: i32, burst: [u8; 510]) -> Text
+    ensures { λ r. ⌜ Counts (r .len) (r .bytes) × (textOf r ≡ cut (burstLines «burst_type» first last burst)) ⌝ }
 {
     let bits: &[u8] = &burst;
     let adj_first = &bits[12..14];
     let adj_last = &bits[498..500];
-    let named = Text::new().append(b"kind=").type_name(kind);
+    let named = Text::new().append(b"kind=").type_name(burst_type);
     let one = with_signed(named.append(b"\nsum_first="), first)
         .append(b"\nadj_first=")
         .bits(adj_first);
@@ -54,13 +54,13 @@ fn built(kind: u32, first: i32, last: i32, burst: [u8; 510]) -> Text
 }
 
 // What is printed of an answer to a letter of that type.
-fn print(kind: u32, burst: Burst) -> Text
-    ensures { λ r. ⌜ Counts (r .len) (r .bytes) × (textOf r ≡ cut (listedAnswer kind (builderReply burst))) ⌝ }
+fn print(burst_type: u32, burst: Burst) -> Text
+    ensures { λ r. ⌜ Counts (r .len) (r .bytes) × (textOf r ≡ cut (listedAnswer «burst_type» (builderReply burst))) ⌝ }
 {
     let answer = burst.answer;
     let bits = burst.bits;
     match answer {
-        Answer::Built(first, last) => built(kind, first, last, bits),
+        Answer::Built(first, last) => built(burst_type, first, last, bits),
         Answer::Refused(number) => refused(number),
     }
 }
@@ -73,8 +73,8 @@ fn listing(input: &[u8]) -> Text
     if line.len() == 0 {
         return refused(BAD_LENGTH);
     }
-    let kind = type_of(line[0]);
-    print(kind, answer(kind, &line[1..]))
+    let burst_type = type_of(line[0]);
+    print(burst_type, answer(burst_type, &line[1..]))
 }
 
 // What is kept of an input that comes in pieces: bytes with the same listing, whatever follows.

@@ -1,37 +1,34 @@
 -- The loops over a block: one turn of each, and what they leave in the buffer. Assumes nothing.
 use mathlib.Core.Path.{_≡_, refl, _∙_}
 use mathlib.Core.List.{List, [], _∷_}
-use mathlib.Core.Bool.{Bool, true, false, _||_, true≢false}
+use mathlib.Core.Bool.{false}
 use Prim.Native.Nat.{ℕ, zero, suc, _+_, _≤_, _<_, min}
 use native.Mathlib.Omega.{arith}
 use lib.ListN.{length, getD, set, take, drop, length-set}
 use lib.Seq.{getD-set-same, getD-set-other, getD-take, drop-set-lt, length-take-le}
-use lib.Ieee.{Float, nan, binary32, lt, ofBits}
+use lib.Ieee.{Float, nan, lt}
 use borrow.Author.Count.{below-more}
+use Rattle.dsp_types.specs.Samples.{zeroF}
 use Rattle.magnitude.specs.Magnitude.{magnitudeOf, magnitudesIn}
-
-pub neither : (a b : Bool) → (a || b) ≡ false → (a ≡ false) × (b ≡ false)
-neither true b e = absurd (true≢false e)
-neither false b e = (refl, e)
 
 -- the value at k is the magnitude there; `quick` tells it only where it is not below 0
 abbrev pub Done : List Float → List Float → List Float → ℕ → Type 0
 Done re im out k = getD out k nan ≡ magnitudeOf (getD re k nan) (getD im k nan)
 
-abbrev pub Told : List Float → List Float → List Float → ℕ → Type 0
-Told re im out k = lt (getD out k nan) (ofBits binary32 0) ≡ false → Done re im out k
+abbrev pub Trusted : List Float → List Float → List Float → ℕ → Type 0
+Trusted re im out k = lt (getD out k nan) zeroF ≡ false → Done re im out k
 
 -- of the first n values of the buffer `old` i are told, or done and the others told; behind them it is as it was
 pub record Guessed (re im old out : List Float) (n i : ℕ) : Type 0 where
   pub long : length out ≡ length old
   pub rest : drop n out ≡ drop n old
-  pub told : (k : ℕ) → k < i → Told re im out k
+  pub told : (k : ℕ) → k < i → Trusted re im out k
 
 pub record Mended (re im old out : List Float) (n i : ℕ) : Type 0 where
   pub long : length out ≡ length old
   pub rest : drop n out ≡ drop n old
   pub done : (k : ℕ) → k < i → Done re im out k
-  pub told : (k : ℕ) → i ≤ k → k < n → Told re im out k
+  pub told : (k : ℕ) → i ≤ k → k < n → Trusted re im out k
 
 -- ---- a store at i
 module _ (P : ℕ → Float → Type 0) (out : List Float) (i : ℕ) (v : Float) where
@@ -43,11 +40,11 @@ module _ (P : ℕ → Float → Type 0) (out : List Float) (i : ℕ) (v : Float)
 
 -- ---- a turn
 module _ (re im old out : List Float) (n i : ℕ) (l : i < n) where
-  pub guessed-one : i < length out → (v : Float) → (lt v (ofBits binary32 0) ≡ false → v ≡ magnitudeOf (getD re i nan) (getD im i nan)) → Guessed re im old out n i → Guessed re im old (set out i v) n (i + 1)
+  pub guessed-one : i < length out → (v : Float) → (lt v zeroF ≡ false → v ≡ magnitudeOf (getD re i nan) (getD im i nan)) → Guessed re im old out n i → Guessed re im old (set out i v) n (i + 1)
   guessed-one h v t g = record {
     long = length-set out i v ∙ g .long;
     rest = drop-set-lt n out i v l ∙ g .rest;
-    told = set-upto (λ k x. lt x (ofBits binary32 0) ≡ false → x ≡ magnitudeOf (getD re k nan) (getD im k nan)) out i v h (g .told) t;
+    told = set-upto (λ k x. lt x zeroF ≡ false → x ≡ magnitudeOf (getD re k nan) (getD im k nan)) out i v h (g .told) t;
   }
 
   pub mended-one : i < length out → (v : Float) → v ≡ magnitudeOf (getD re i nan) (getD im i nan) → Mended re im old out n i → Mended re im old (set out i v) n (i + 1)
@@ -55,11 +52,11 @@ module _ (re im old out : List Float) (n i : ℕ) (l : i < n) where
     long = length-set out i v ∙ g .long;
     rest = drop-set-lt n out i v l ∙ g .rest;
     done = set-upto (λ k x. x ≡ magnitudeOf (getD re k nan) (getD im k nan)) out i v h (g .done) t;
-    told = set-from (λ k x. lt x (ofBits binary32 0) ≡ false → x ≡ magnitudeOf (getD re k nan) (getD im k nan)) out i v n (g .told);
+    told = set-from (λ k x. lt x zeroF ≡ false → x ≡ magnitudeOf (getD re k nan) (getD im k nan)) out i v n (g .told);
   }
 
   -- none was to mend
-  pub kept-one : lt (getD out i nan) (ofBits binary32 0) ≡ false → Mended re im old out n i → Mended re im old out n (i + 1)
+  pub kept-one : lt (getD out i nan) zeroF ≡ false → Mended re im old out n i → Mended re im old out n (i + 1)
   kept-one t g = record {
     long = g .long;
     rest = g .rest;
@@ -84,7 +81,7 @@ all-done (suc n) (x ∷ re) (y ∷ im) (o ∷ old) (r ∷ out) e l d h =
 
 module _ (re im old out : List Float) (n i : ℕ) (e : n ≡ min (min (length re) (length im)) (length old)) (l : n ≤ i) (g : Guessed re im old out n i) where
   -- no value was below 0
-  pub none-to-mend : ((k : ℕ) → k < length (take n out) → lt (getD (take n out) k nan) (ofBits binary32 0) ≡ false) → out ≡ magnitudesIn re im old
+  pub none-to-mend : ((k : ℕ) → k < length (take n out) → lt (getD (take n out) k nan) zeroF ≡ false) → out ≡ magnitudesIn re im old
   none-to-mend h = all-done n re im old out e (g .long) (g .rest) (λ k m. g .told k (omega arith) (rw getD-take at (h k (rw (length-take-le n out (omega (arith, g .long))) m))))
 
   pub to-mend : Mended re im out out n 0

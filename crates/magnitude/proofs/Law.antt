@@ -12,6 +12,7 @@ use lib.Ieee.{Float, nan, inf, fin, binary32, up, down, fits, le, ofBits, toBits
 use lib.Ieee.Bits.{ofBits-fits}
 use lib.Ieee.Order.{le-of-values}
 use lib.Ieee.Scale.{finite}
+use Rattle.dsp_types.specs.Samples.{zeroF}
 use Rattle.magnitude.specs.Magnitude.{units, square, under, largest, magnitudeOf}
 use Rattle.magnitude.specs.Pattern.{sizeOf, patternUnits}
 use Rattle.magnitude.specs.Document.{Number, LargestUnder, StandIn}
@@ -88,7 +89,7 @@ largest-law re im a b =
     }
 
 stand-in : (re im : Float) (p : ℕ) → p < 0x7f80_0000 → (finite re ≡ true → finite im ≡ true → LargestUnder re im (ofBits binary32 p))
-    → ((finite re && finite im) ≡ false → ofBits binary32 p ≡ ofBits binary32 0) → StandIn re im (ofBits binary32 p)
+    → ((finite re && finite im) ≡ false → ofBits binary32 p ≡ zeroF) → StandIn re im (ofBits binary32 p)
 unfolding pattern-number
 stand-in re im p h l z = record { number = pattern-number p h; largest = l; otherwise = z; unsigned = refl }
 

@@ -11,6 +11,7 @@ use lib.Ieee.{Float, nan, inf, fin, binary32, binary64, lt, ne, isNan, nanBits, 
 use lib.Ieee.Bits.{ofBits-toBits, nanBits-above, is-false}
 use lib.Ieee.Compare.{differs-from-itself}
 use lib.Ieee.Scale.{finite}
+use Rattle.dsp_types.specs.Samples.{zeroF}
 use Rattle.magnitude.specs.Magnitude.{units, square, largest, magnitudeOf}
 use Rattle.magnitude.specs.Pattern.{sizeOf, patternUnits}
 use Rattle.magnitude.proofs.Largest.{largest-lt}
@@ -57,15 +58,15 @@ pub size-lt : (x : Float) → T (fits binary32 x) → finite x ≡ true → size
 size-lt x f h = lt-of-not-le (λ g. absurd (true≢false (sym h ∙ no-number x f g)))
 
 -- ---- the result
-pub zero-first : (re im : Float) → finite re ≡ false → magnitudeOf re im ≡ ofBits binary32 0
+pub zero-first : (re im : Float) → finite re ≡ false → magnitudeOf re im ≡ zeroF
 unfolding magnitudeOf
 zero-first re im e = simp e
 
-pub zero-second : (re im : Float) → finite im ≡ false → magnitudeOf re im ≡ ofBits binary32 0
+pub zero-second : (re im : Float) → finite im ≡ false → magnitudeOf re im ≡ zeroF
 unfolding magnitudeOf
 zero-second re im e = go (finite re)
   where
-    go : (b : Bool) → cond (b && finite im) (ofBits binary32 (largest (square (units re) + square (units im)))) (ofBits binary32 0) ≡ ofBits binary32 0
+    go : (b : Bool) → cond (b && finite im) (ofBits binary32 (largest (square (units re) + square (units im)))) zeroF ≡ zeroF
     go true = simp e
     go false = refl
 
@@ -94,7 +95,7 @@ two-sizes re im p f g r = elim (eq-zero-or-pos (0x7f80_0000 - max (sizeOf re) (s
       )
 ]
   where
-    infinite : 0x7f80_0000 - max (sizeOf re) (sizeOf im) ≡ 0 → magnitudeOf re im ≡ ofBits binary32 0
+    infinite : 0x7f80_0000 - max (sizeOf re) (sizeOf im) ≡ 0 → magnitudeOf re im ≡ zeroF
     infinite z = elim (eq-zero-or-pos (0x7f80_0000 - sizeOf re)) [
       | inl h ↦ zero-first re im (no-number re f (omega arith))
       | inr h ↦ zero-second re im (no-number im g (omega arith))

@@ -1,10 +1,10 @@
 -- A guess that passes the float test is the magnitude: below re² + im², exactly, and the next f32 above. Assumes nothing.
-use mathlib.Core.Path.{_≡_, refl, sym}
+use mathlib.Core.Path.{_≡_, refl}
 use Prim.Native.Nat.{ℕ, _+_, _*_, _^_, _≤_, _<_}
 use native.Mathlib.Nat.{le-trans, le-of-lt, lt-irrefl, not-le-of-lt, mul-pos}
 use native.Mathlib.Omega.{arith}
 use mathlib.Core.Logic.{_⊎_, inl, inr}
-use mathlib.Core.Bool.{Bool, true, false, not, _&&_, true≢false}
+use mathlib.Core.Bool.{true, false, not, _&&_}
 use lib.Dec.{T, leb, lit<}
 use lib.Pow.{pow-pos}
 use lib.Ieee.{Float, binary32, binary64, round, neg, add, mul, lt, fits, isNan, ofBits, toBits}
@@ -12,6 +12,8 @@ use lib.Ieee.Bits.{ofBits-fits, nanBits-is}
 use lib.Ieee.Fits.{and-i, fits-widens}
 use lib.Ieee.Exact.{HasValue}
 use lib.Ieee.Scale.{finite}
+use Rattle.dsp_types.proofs.Laws.{both-true}
+use Rattle.dsp_types.specs.Samples.{zeroF}
 use Rattle.magnitude.specs.Magnitude.{square, largest, magnitudeOf, units}
 use Rattle.magnitude.specs.Pattern.{sizeOf, exponentOf, significandOf, patternUnits}
 use Rattle.magnitude.proofs.Numbers.{square-le, root-lt}
@@ -65,14 +67,10 @@ own x z (inr e) h = absurd (lt-irrefl (patternUnits 0x7f00_0000) (rw (e, sized-u
 both-lt : (a b c d : ℕ) → square a + square b < square c → c ≤ d → (a < d) × (b < d)
 both-lt a b c d h l = let s = square-le l in (root-lt a d (omega arith), root-lt b d (omega arith))
 
-and-true : (a b : Bool) → (a && b) ≡ true → (a ≡ true) × (b ≡ true)
-and-true true b e = (refl, e)
-and-true false b e = absurd (true≢false (sym e))
-
 pub passed : (re im x y : Float) (p : ℕ) → T (fits binary32 re) → T (fits binary32 im) → (x ≡ re) ⊎ (x ≡ large) → (y ≡ im) ⊎ (y ≡ large) → p < 0x7f00_0000
     → (lt (squared (ofBits binary32 p)) (sumOf x y) && lt (sumOf x y) (squared (ofBits binary32 (p + 1)))) ≡ true → ofBits binary32 p ≡ magnitudeOf re im
 passed re im x y p f g X Y h t =
-    let test = and-true (lt (squared (ofBits binary32 p)) (sumOf x y)) (lt (sumOf x y) (squared (ofBits binary32 (p + 1)))) t in
+    let test = both-true (lt (squared (ofBits binary32 p)) (sumOf x y)) (lt (sumOf x y) (squared (ofBits binary32 (p + 1)))) t in
     let F = finite-parts binary64 x y (squared (ofBits binary32 (p + 1))) (test .1) in
     let a = square (units x) in
     let b = square (units y) in
@@ -83,7 +81,7 @@ passed re im x y p f g X Y h t =
     rw (← own x re X (u .0), ← own y im Y (u .1), two-numbers x y (F .0) (F .1), between (a + b) p (omega arith) (le-of-lt low) high)
 
 -- ---- what else `quick` needs: -1.0 is below 0.0, and a pattern below that of 2 ^ 127, or one more, is a number's
-pub below-zero : lt (neg (ofBits binary32 0x3f80_0000)) (ofBits binary32 0) ≡ true
+pub below-zero : lt (neg (ofBits binary32 0x3f80_0000)) zeroF ≡ true
 unfolding lt neg ofBits
 below-zero = refl
 

@@ -3,9 +3,10 @@ use mathlib.Core.Path.{_≡_}
 use Prim.Native.Nat.{_+_, _^_, _≤_}
 use mathlib.Core.Bool.{Bool, true, false, _&&_}
 use lib.Dec.{T}
-use lib.Ieee.{Float, binary32, ofBits, fits, le}
+use lib.Ieee.{Float, binary32, fits, le}
 use lib.Ieee.Exact.{HasValue}
 use lib.Ieee.Scale.{finite}
+use Rattle.dsp_types.specs.Samples.{zeroF}
 use Rattle.magnitude.specs.Magnitude.{units, square}
 
 -- x is a finite f32, and `units x` / 2 ^ 149 is its size, exactly
@@ -26,6 +27,6 @@ pub record StandIn (re im r : Float) : Type 0 where
   pub number : Number r
   pub largest : finite re ≡ true → finite im ≡ true → LargestUnder re im r
   -- "0.0 if a part is NaN or infinite"
-  pub otherwise : (finite re && finite im) ≡ false → r ≡ ofBits binary32 0
+  pub otherwise : (finite re && finite im) ≡ false → r ≡ zeroF
   -- "never −0.0", nor below zero
   pub unsigned : number .sign ≡ false

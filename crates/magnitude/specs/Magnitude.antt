@@ -6,6 +6,7 @@ use mathlib.Core.List.{List, [], _∷_}
 use lib.Dec.{leb, ltb}
 use lib.Ieee.{Float, nan, inf, fin, binary32, up, down, ofBits}
 use lib.Ieee.Scale.{finite}
+use Rattle.dsp_types.specs.Samples.{zeroF}
 
 -- the size of a finite f32 in units; `fin s m e` is m · 2 ^ e, and 2 ^ e is up e / down e
 unfoldable pub units : Float → ℕ
@@ -34,7 +35,7 @@ largest n = raised (under n) 31 0
 -- the magnitude of the sample (re, im); 0.0 where a part is NaN or infinite
 unfoldable pub magnitudeOf : Float → Float → Float
 unfolding largest units ofBits
-magnitudeOf re im = cond (finite re && finite im) (ofBits binary32 (largest (square (units re) + square (units im)))) (ofBits binary32 0)
+magnitudeOf re im = cond (finite re && finite im) (ofBits binary32 (largest (square (units re) + square (units im)))) zeroF
 
 -- the magnitudes of samples (01, "The past") at the start of a buffer, as far as it and both lists of parts go; what is behind them stays
 unfoldable pub magnitudesIn : List Float → List Float → List Float → List Float

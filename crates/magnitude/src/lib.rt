@@ -7,6 +7,7 @@ ghost use lib.Dec.{T};
 ghost use lib.Ieee.{nan, binary32, binary64, isNan, lt, ofBits, toBits};
 ghost use lib.ListN.{length, getD};
 ghost use Prim.Native.Nat.{ℕ, _+_, _*_, _/_, _^_, _<_, _≤_, max};
+ghost use Rattle.dsp_types.specs.Samples.{zeroF};
 ghost use Rattle.magnitude.specs.Magnitude.{magnitudeOf, magnitudesIn, largest, square};
 ghost use Rattle.magnitude.specs.Pattern.{sizeOf, exponentOf, significandOf, patternUnits, packedOf};
 
@@ -196,7 +197,7 @@ fn capped_pattern(p: u32) -> u32
 // rounded sum lies between the squares of an f32 and the next, so does the exact one. Nothing is proved of the guess r; all
 // but one in 10,000 pass, and none that is the root exactly. There is no branch, so that a block is vectorised.
 fn quick(re: f32, im: f32) -> f32
-    ensures { λ r. ⌜ (lt r (ofBits binary32 0) ≡ false → r ≡ magnitudeOf re im) ⌝ }
+    ensures { λ r. ⌜ (lt r zeroF ≡ false → r ≡ magnitudeOf re im) ⌝ }
 {
     let x = capped(re) as f64;
     let y = capped(im) as f64;
@@ -225,7 +226,7 @@ pub fn magnitude(re: f32, im: f32) -> f32
 
 // Whether some value is below 0. It looks at every one, so that the compiler can take many at once.
 fn any_below(xs: &[f32]) -> bool
-    ensures { λ r. ⌜ (r ≡ false → (k : ℕ) → k < length (now (xs .entry)) → lt (getD (now (xs .entry)) k nan) (ofBits binary32 0) ≡ false) ⌝ }
+    ensures { λ r. ⌜ (r ≡ false → (k : ℕ) → k < length (now (xs .entry)) → lt (getD (now (xs .entry)) k nan) zeroF ≡ false) ⌝ }
 {
     let mut found = false;
     for i in 0..xs.len() {

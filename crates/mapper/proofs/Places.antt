@@ -1,6 +1,6 @@
 -- What is due, by the tests that the code makes. Assumes nothing.
 use mathlib.Core.Path.{_≡_, refl, sym, _∙_}
-use mathlib.Core.Bool.{Bool, true, false, not}
+use mathlib.Core.Bool.{Bool, true, false, not, true≢false}
 use Prim.Native.Nat.{ℕ, zero, suc, _+_, _-_, _*_, _/_, _%_, _<_, _≤_}
 use native.Mathlib.Omega.{arith}
 use mathlib.Core.List.{List}
@@ -15,31 +15,28 @@ use Rattle.mapper.specs.declared.Due.{Due}
 use Rattle.mapper.specs.declared.Due.the-variants.{Refused, Silence, Symbol}
 use Rattle.mapper.specs.Due.{bitsRefusal, slotRefusal, inputRefusal, bitAt, symbolDue, dueIn, dueAt, dueIf}
 
-pub true-ne : true ≡ false → ⊥
-true-ne e = let z : _≡_ {A = ℕ} 0 1 = cc in omega arith
-
 -- ---- refusals from the input
 
 module _ (bits : List ℕ) where
   pub no-bits : (b : Bool) → not b ≡ true → 0 ≡ bitsRefusal b bits
   unfolding bitsRefusal
-  no-bits true e = absurd (true-ne (sym e))
+  no-bits true e = absurd (true≢false (sym e))
   no-bits false e = refl
 
   pub wrong-bits : (b : Bool) → not b ≡ false → (length bits ≡ 510 → ⊥) → 3 ≡ bitsRefusal b bits
   unfolding bitsRefusal wrongLength
   wrong-bits true e h = rw (ne-eqb (length bits) 510 h)
-  wrong-bits false e h = absurd (true-ne e)
+  wrong-bits false e h = absurd (true≢false e)
 
   pub bad-bits : (b : Bool) → not b ≡ false → length bits ≡ 510 → notBits bits ≡ true → 4 ≡ bitsRefusal b bits
   unfolding bitsRefusal wrongLength
   bad-bits true e h k = rw (eq-eqb (length bits) 510 h, k)
-  bad-bits false e h k = absurd (true-ne e)
+  bad-bits false e h k = absurd (true≢false e)
 
   pub good-bits : (b : Bool) → not b ≡ false → length bits ≡ 510 → notBits bits ≡ false → 0 ≡ bitsRefusal b bits
   unfolding bitsRefusal wrongLength
   good-bits true e h k = rw (eq-eqb (length bits) 510 h, k)
-  good-bits false e h k = absurd (true-ne e)
+  good-bits false e h k = absurd (true≢false e)
 
 pub refused-bits : (slot n : ℕ) → (n ≡ 0 → ⊥) → n ≡ slotRefusal slot n
 unfolding slotRefusal
@@ -63,7 +60,7 @@ module _ (c : ℤ) (slot : ℕ) (b : Bool) (bits : List ℕ) (h : inputRefusal c
     where
       go : (z : ℤ) → outOfCount z ≡ false → (z ≡ pos (mag z)) × (mag z ≤ lastCounter)
       go (pos n) e = (refl, omega (arith, ltb-false lastCounter n e))
-      go (negsuc n) e = absurd (true-ne e)
+      go (negsuc n) e = absurd (true≢false e)
 
   pub slot-accepted : slotRefusal slot (bitsRefusal b bits) ≡ 0
   unfolding inputRefusal
@@ -93,18 +90,18 @@ module _ (n start : ℕ) where
 
 absent-in : (b : Bool) (bits : List ℕ) (p : ℕ) → not b ≡ true → Silence ≡ dueIn b bits p
 unfolding dueIn
-absent-in true bits p e = absurd (true-ne (sym e))
+absent-in true bits p e = absurd (true≢false (sym e))
 absent-in false bits p e = refl
 
 between-in : (b : Bool) (bits : List ℕ) (p : ℕ) → not b ≡ false → (p % 4 ≡ 0 → ⊥) → Silence ≡ dueIn b bits p
 unfolding dueIn
 between-in true bits p e h = rw (ne-eqb (p % 4) 0 h)
-between-in false bits p e h = absurd (true-ne e)
+between-in false bits p e h = absurd (true≢false e)
 
 symbol-in : (b : Bool) (bits : List ℕ) (p : ℕ) → not b ≡ false → p % 4 ≡ 0 → symbolDue bits p ≡ dueIn b bits p
 unfolding dueIn
 symbol-in true bits p e h = rw (eq-eqb (p % 4) 0 h)
-symbol-in false bits p e h = absurd (true-ne e)
+symbol-in false bits p e h = absurd (true≢false e)
 
 module _ (n start : ℕ) (b : Bool) (bits : List ℕ) (h : start ≤ n) (k : n - start < 1020) where
   pub absent : not b ≡ true → Silence ≡ dueAt b bits (pos n -ℤ pos start)

@@ -1,42 +1,22 @@
--- A burst into lent bytes: the copy, step by step, and what a call leaves. Assumes nothing.
-use mathlib.Core.Path.{_≡_, refl, ap}
-use mathlib.Core.List.{List, [], _∷_, _++_}
-use Prim.Native.Nat.{ℕ, zero, suc, _+_, _<_}
+-- A burst into lent bytes: the copy, and what a call leaves. Assumes nothing.
+use mathlib.Core.Path.{_≡_, refl}
+use mathlib.Core.List.{List, _++_, append-nil}
+use Prim.Native.Nat.{ℕ, zero, suc, _≤_}
 use native.Mathlib.Omega.{arith}
-use lib.ListN.{length, set, getD, take, drop}
+use lib.ListN.{length, take, drop, drop-of-length-le}
+use lib.Seq.{take-all}
 use borrow.Author.Tests.{eq-eqb, ne-eqb}
 use Rattle.dsp_types.specs.Refusals.{wrongLength}
-use Rattle.slotter.specs.declared.Burst.{Burst}
-use Rattle.slotter.specs.declared.Answer.{Answer}
-use Rattle.slotter.specs.declared.Answer.the-variants.{Built, Refused}
-use Rattle.slotter.specs.Bursts.{BuilderReply, builderReply}
+use Rattle.slotter.specs.Bursts.{BuilderReply}
 use Rattle.modem.specs.Build.{lentUnless, buildRefusal, lentBurst}
 
--- ---- the copy
-
-pub copy-step : (from to : List ℕ) (i : ℕ) → i < length from → i < length to
-    → set (take i from ++ drop i to) i (getD from i 0) ≡ take (suc i) from ++ drop (suc i) to
-copy-step [] to i h l = absurd (omega arith)
-copy-step (x ∷ from) [] i h l = absurd (omega arith)
-copy-step (x ∷ from) (y ∷ to) zero h l = refl
-copy-step (x ∷ from) (y ∷ to) (suc i) h l = ap (λ (r : List ℕ). x ∷ r) (copy-step from to i (omega arith) (omega arith))
-
-pub copy-all : (from to : List ℕ) (n : ℕ) → length from ≡ n → length to ≡ n → take n from ++ drop n to ≡ from
-copy-all [] [] n h l = rw (← h)
-copy-all [] (y ∷ to) n h l = absurd (omega arith)
-copy-all (x ∷ from) [] n h l = absurd (omega arith)
-copy-all (x ∷ from) (y ∷ to) zero h l = absurd (omega arith)
-copy-all (x ∷ from) (y ∷ to) (suc n) h l = ap (λ (r : List ℕ). x ∷ r) (copy-all from to n (omega arith) (omega arith))
+-- a copy of as many bytes as there are leaves none of those
+pub copied : (from to : List ℕ) → length to ≡ length from → take (length from) from ++ drop (length from) to ≡ from
+copied from to e =
+    let h : length to ≤ length from = omega arith in
+    rw (take-all (length from) from (omega arith), drop-of-length-le to h) (append-nil from)
 
 -- ---- what a call returns and leaves
-
-pub told-bits : (burst : Burst) → burst .bits ≡ builderReply burst .bits
-unfolding builderReply
-told-bits burst = go (burst .answer) (burst .bits)
-  where
-    go : (answer : Answer) (bits : List ℕ) → bits ≡ builderReply (record { answer = answer; bits = bits }) .bits
-    go (Built first last) bits = refl
-    go (Refused n) bits = refl
 
 module _ (burst : BuilderReply) (bits : List ℕ) where
   module _ (n : length bits ≡ 510 → ⊥) where

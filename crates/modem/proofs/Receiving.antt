@@ -1,38 +1,15 @@
--- The receiver's calls from C: a mode's number, and an answer by its number. Assumes nothing.
+-- The receiver's calls from C: an answer by its number. Assumes nothing.
 use mathlib.Core.Path.{_≡_, refl}
 use mathlib.Core.List.{[]}
 use Prim.Native.Nat.{ℕ, zero, suc}
 use native.Mathlib.Omega.{arith}
-use borrow.Author.Tests.{ne-eqb}
-use Rattle.slot_receiver.specs.declared.Mode.the-variants.{Idle, DlUnsynchronized, Dl, Ul}
 use Rattle.slot_receiver.specs.declared.take.TakeAnswer.{TakeAnswer}
 use Rattle.slot_receiver.specs.declared.take.TakeAnswer.the-variants as TakeAnswer
 use Rattle.slot_receiver.specs.declared.Answer.{Answer}
 use Rattle.slot_receiver.specs.declared.Answer.the-variants as Answer
 use Rattle.slot_receiver.specs.Receiver.{Receiver}
 use Rattle.slot_receiver.specs.Calls.{refused, unless, followRefusal, followed, followOutcome, replyOf, takeReplyOf}
-use Rattle.slot_receiver.specs.View.{modeOf}
 use Rattle.modem.specs.Receive.{replyNumber}
-
--- ---- a mode's number
-
-pub mode-idle : (n : ℕ) → (n ≡ 1 → ⊥) → (n ≡ 2 → ⊥) → (n ≡ 3 → ⊥) → Idle ≡ modeOf n
-unfolding modeOf
-mode-idle n a b c = rw (ne-eqb n 1 a, ne-eqb n 2 b, ne-eqb n 3 c)
-
-pub mode-search : (n : ℕ) → n ≡ 1 → DlUnsynchronized ≡ modeOf n
-unfolding modeOf
-mode-search n e = rw e
-
-pub mode-downlink : (n : ℕ) → n ≡ 2 → Dl ≡ modeOf n
-unfolding modeOf
-mode-downlink n e = rw e
-
-pub mode-uplink : (n : ℕ) → n ≡ 3 → Ul ≡ modeOf n
-unfolding modeOf
-mode-uplink n e = rw e
-
--- ---- answers
 
 -- an answer whose number is not 0 is a refusal, and one whose number is 0 is none
 pub by-refusal : {A : Type 0} (a : Answer) → (replyNumber (replyOf a) ≡ 0 → ⊥) → ((n : ℕ) → a ≡ Answer.Refused n → A) → A

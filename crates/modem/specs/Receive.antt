@@ -15,11 +15,11 @@ replyNumber done = accepted
 replyNumber (took s) = accepted
 
 -- 01, "Refusals": a refusal returns its number alone, so the slot beside it is all zeros
-abbrev pub noBurst : RxBurst
-noBurst = record { «train_type» = 0; «train_errs» = 0; «burst_pos» = 0; «burst_len» = 0 }
+abbrev pub zeroBurst : RxBurst
+zeroBurst = record { «train_type» = 0; «train_errs» = 0; «burst_pos» = 0; «burst_len» = 0 }
 
 abbrev pub emptySlot : RxSlot
-emptySlot = record { time = record { 0 = 0 }; full = noBurst; subslot1 = noBurst; subslot2 = noBurst }
+emptySlot = record { time = record { 0 = 0 }; full = zeroBurst; subslot1 = zeroBurst; subslot2 = zeroBurst }
 
 -- the slot that was taken
 unfoldable pub slotTaken : Reply RxSlot → RxSlot

@@ -1,32 +1,10 @@
 // The burst builders: a burst goes into bytes that are lent.
 use dsp_types::ACCEPTED;
 use dsp_types::BAD_LENGTH;
-use slotter::Answer;
 use slotter::Burst;
 ghost use mathlib.Core.Path.{_≡_};
-ghost use lib.ListN.{length};
 ghost use Rattle.slotter.specs.Bursts.{builderReply, syncBurst, normalBurst};
 ghost use Rattle.modem.specs.Build.{buildRefusal, lentBurst};
-
-// 0, or the refusal's number.
-fn number(burst: Burst) -> u32
-    ensures { λ r. ⌜ r ≡ builderReply burst .number ⌝ }
-{
-    let answer = burst.answer;
-    match answer {
-        Answer::Built(_, _) => ACCEPTED,
-        Answer::Refused(number) => number,
-    }
-}
-
-fn copy(from: &[u8], to: &mut [u8])
-    requires { ⌜ length (now from) ≡ length (now to) ⌝ }
-    ensures { λ _. ⌜ now (to .exit) ≡ now (from .entry) ⌝ }
-{
-    for i in 0..from.len() {
-        to[i] = from[i];
-    }
-}
 
 // Fills 510 lent bytes with a burst and returns 0, or returns the refusal's number and leaves them alone.
 fn lend(burst: Burst, bits: &mut [u8]) -> u32
@@ -36,10 +14,10 @@ fn lend(burst: Burst, bits: &mut [u8]) -> u32
     if bits.len() != 510 {
         return BAD_LENGTH;
     }
-    let refused = number(burst);
+    let refused = burst.number();
     if refused == ACCEPTED {
         let built = burst.bits;
-        copy(&built, bits);
+        bytes::copy(&built, bits);
     }
     refused
 }

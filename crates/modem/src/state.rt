@@ -78,7 +78,7 @@ fn take_number(answer: TakeAnswer) -> u32
 }
 
 // A refusal's slot is all zeros.
-fn no_slot() -> RxSlot
+fn empty_slot() -> RxSlot
     ensures { λ r. ⌜ r ≡ emptySlot ⌝ }
 {
     let none = RxBurst {
@@ -100,7 +100,7 @@ fn take_slot(answer: TakeAnswer) -> RxSlot
 {
     match answer {
         TakeAnswer::Slot(slot) => slot,
-        TakeAnswer::Refused(_) => no_slot(),
+        TakeAnswer::Refused(_) => empty_slot(),
     }
 }
 

@@ -1,6 +1,6 @@
 -- A block is the calls one by one: samples that are not refused come out as the filter's block, and the first refusal ends it. Assumes nothing.
 use mathlib.Core.Path.{_≡_, refl, sym, ap, subst, _∙_}
-use mathlib.Core.Bool.{Bool, true, false, not, _&&_, _||_, cond}
+use mathlib.Core.Bool.{Bool, true, false, not, _&&_, _||_, cond, true≢false}
 use mathlib.Core.Logic.{⊎-elim}
 use Prim.Native.Nat.{ℕ, zero, suc, _+_, _-_, _*_, _%_, _<_, _≤_, min}
 use native.Mathlib.Nat.{le-refl}
@@ -16,6 +16,7 @@ use Rattle.dsp_types.specs.declared.ComplexSample.{ComplexSample}
 use Rattle.dsp_types.proofs.IntLaws.{sum, same}
 use Rattle.dsp_types.specs.Refusals.{lastCounter, outOfCount, counters}
 use Rattle.dsp_types.proofs.RingLaws.{le-or-lt}
+use Rattle.dsp_types.proofs.Laws.{neither}
 use Rattle.dsp_types.specs.Samples.{silence, ago}
 use Rattle.fir.specs.Fir.{filterOf, lineAfter, outsOf, samplesOf, blockOf, startWith, reOf, imOf}
 use Rattle.fir.proofs.Laws.{line-append, outs-append, length-outs, start-part, samples-parts}
@@ -26,7 +27,7 @@ use Rattle.mapper.specs.Dqpsk.{phaseAfter, inputOf}
 use Rattle.mapper.specs.Due.{inputRefusal, startOf, placeIn, symbolDue, dueIn, dueAt, dueIf, dueOf, dueRefusal}
 use Rattle.modulator.specs.Sender.{shapedOf, toldOf, nextLine, SenderReply, Sender, filterInput, tells, senderAfter}
 use Rattle.modulator.specs.Blocks.{SentBlock, joinedIf, joined, sentBlock, blockCall, dueAfter, partsOf, Wrote, placeDue, inputsOf, phasesOf, fedBlock, leftOf}
-use Rattle.mapper.proofs.Places.{true-ne, early, late, within, slot-accepted}
+use Rattle.mapper.proofs.Places.{early, late, within, slot-accepted}
 
 -- it is not a refusal
 abbrev pub Sends : Due → Type 0
@@ -351,15 +352,11 @@ pub none-sent : (first : ℤ) (slot : ℕ) (b : Bool) (bits : List ℕ) (r room 
     → Wrote (blockCall (dueAfter first slot b bits) room s) 0 r s out out
 unfolding blockCall partsOf startWith
 none-sent first slot b bits r zero s out e h = record { counted = refl; refused = e ∙ ap dueRefusal (sym (first-due first slot b bits)); sent = refl; written = refl }
-none-sent first slot b bits zero (suc room) s out e h = absurd (true-ne (sym h ∙ eqb·suc-zero room))
+none-sent first slot b bits zero (suc room) s out e h = absurd (true≢false (sym h ∙ eqb·suc-zero room))
 none-sent first slot b bits (suc r) (suc room) s out e h =
     rw (stopped (dueAfter first slot b bits) room 0 r s (first-due first slot b bits ∙ refused-due r _ e)) (record { counted = refl; refused = refl; sent = refl; written = refl })
 
 -- it is sent
-neither : (x y : Bool) → (x || y) ≡ false → (x ≡ false) × (y ≡ false)
-neither true y e = absurd (true-ne e)
-neither false y e = (refl, e)
-
 module _ (r room : ℕ) (h : (not (eqb r 0) || eqb room 0) ≡ false) where
   pub no-refusal : r ≡ 0
   no-refusal = eqb-true r 0 (not-false (eqb r 0) (neither (not (eqb r 0)) (eqb room 0) h .0))

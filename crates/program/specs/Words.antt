@@ -21,13 +21,13 @@ isOption (b ∷ []) = false
 isOption (b ∷ c ∷ rest) = eqb b 45
 
 -- where options may stand
-unfoldable pub kindOf : List ℕ → Kind
-kindOf word =
+unfoldable pub kindOfWord : List ℕ → Kind
+kindOfWord word =
     cond (sameWord word (ascii "--")) Ends
     (cond (sameWord word (ascii "--help")) Help
     (cond (sameWord word (ascii "--version")) Version
     (cond (isOption word) Option Name)))
 
 -- behind `--` each word is a name
-unfoldable pub kindAt : Bool → List ℕ → Kind
-kindAt ended word = cond ended Name (kindOf word)
+unfoldable pub kindOfWordAt : Bool → List ℕ → Kind
+kindOfWordAt ended word = cond ended Name (kindOfWord word)

@@ -4,7 +4,7 @@ ghost use Prim.Native.Nat.{_+_, _%_, _^_};
 ghost use mathlib.Core.Bool.{false, _||_};
 ghost use lib.ListN.{take};
 ghost use Rattle.io.specs.Counts.{Counts};
-ghost use Rattle.program.specs.Words.{sameWord, isOption, kindOf, kindAt};
+ghost use Rattle.program.specs.Words.{sameWord, isOption, kindOfWord, kindOfWordAt};
 ghost use Rattle.text.specs.Text.{ascii};
 
 pub enum Kind {
@@ -49,7 +49,7 @@ pub fn is_word(word: &[u8], that: &[u8]) -> bool
 
 // What a word is where options may stand.
 fn kind_of(word: &[u8]) -> Kind
-    ensures { λ r. ⌜ r ≡ kindOf (now (word .entry)) ⌝ }
+    ensures { λ r. ⌜ r ≡ kindOfWord (now (word .entry)) ⌝ }
 {
     if is_word(word, b"--") {
         return Kind::Ends;
@@ -69,7 +69,7 @@ fn kind_of(word: &[u8]) -> Kind
 
 // The same behind `--`, where each word is a name.
 fn kind_at(is_ended: bool, word: &[u8]) -> Kind
-    ensures { λ r. ⌜ r ≡ kindAt «is_ended» (now (word .entry)) ⌝ }
+    ensures { λ r. ⌜ r ≡ kindOfWordAt «is_ended» (now (word .entry)) ⌝ }
 {
     if is_ended { Kind::Name } else { kind_of(word) }
 }
@@ -93,7 +93,7 @@ impl Words {
     // The next word. One that is missing is read as an empty name.
     pub fn next(self, buf: &mut [u8]) -> Word
         ensures { λ r. ⌜ Counts (r .len) (now (buf .exit)) ⌝ }
-        ensures { λ r. ⌜ r .kind ≡ kindAt (self .«is_ended») (take (r .len) (now (buf .exit))) ⌝ }
+        ensures { λ r. ⌜ r .kind ≡ kindOfWordAt (self .«is_ended») (take (r .len) (now (buf .exit))) ⌝ }
         ensures { λ r. ⌜ r .words .at ≡ (self .at + 1) % 2 ^ 64 ⌝ }
         ensures { λ r. ⌜ r .words .«is_ended» ≡ (self .«is_ended» || sameWord (take (r .len) (now (buf .exit))) (ascii "--")) ⌝ }
     {

@@ -1,6 +1,6 @@
 -- Which zeros hand a slot over, also where they are fed part by part, and which sample behind them. Assumes nothing.
 use mathlib.Core.Path.{_≡_, refl, sym, ap, _∙_}
-use mathlib.Core.Bool.{Bool, true, false, _||_}
+use mathlib.Core.Bool.{Bool, false, _||_, or-assoc, or-comm, or-false}
 use mathlib.Core.List.{List, [], _∷_, _++_}
 use Prim.Native.Nat.{ℕ, zero, suc, _-_, _<_, _≤_}
 use native.Mathlib.Omega.{arith}
@@ -10,27 +10,13 @@ use Rattle.dsp_types.specs.Samples.{silence}
 use Rattle.slot_receiver.specs.Receiver.{Receiver, processSample, feedZeros, zerosBefore}
 use Rattle.slot_receiver.specs.Windows.{Window, isSlot, handsOver, windowOf, zerosWindows, acceptWindows}
 
-pub or-false : (b : Bool) → (b || false) ≡ b
-or-false true = refl
-or-false false = refl
-
-pub or-assoc : (a b c : Bool) → ((a || b) || c) ≡ (a || (b || c))
-or-assoc true b c = refl
-or-assoc false b c = refl
-
-or-swap : (a b : Bool) → (a || b) ≡ (b || a)
-or-swap true true = refl
-or-swap true false = refl
-or-swap false true = refl
-or-swap false false = refl
-
 hands-both : (ws vs : List Window) → handsOver (ws ++ vs) ≡ (handsOver vs || handsOver ws)
 unfolding handsOver
 hands-both [] vs = sym (or-false (handsOver vs))
 hands-both (w ∷ ws) vs =
     rw (hands-both ws vs)
     (sym (or-assoc (isSlot (w .kind)) (handsOver vs) (handsOver ws))
-    ∙ ap (λ (b : Bool). b || handsOver ws) (or-swap (isSlot (w .kind)) (handsOver vs))
+    ∙ ap (λ (b : Bool). b || handsOver ws) (or-comm (isSlot (w .kind)) (handsOver vs))
     ∙ or-assoc (handsOver vs) (isSlot (w .kind)) (handsOver ws))
 
 pub no-zeros-hand : (left : ℕ) (r : Receiver) (c : ℤ) → left ≤ 0 → handsOver (zerosWindows left r c) ≡ false

@@ -10,6 +10,7 @@ use lib.Seq.{append-snoc}
 use lib.Ieee.{Float, nan}
 use Rattle.dsp_types.specs.declared.ComplexSample.{ComplexSample}
 use Rattle.dsp_types.specs.Refusals.{beyond}
+use Rattle.fir.proofs.Blocks.{length-samples}
 use Rattle.fir.specs.Fir.{samplesOf}
 use Rattle.receiver.specs.Feed.{interleaved}
 use Rattle.receiver.specs.Keep.{anyBeyond}
@@ -70,11 +71,5 @@ split-one parts re im at n h k l f s =
 
 -- ---- their count
 
-samples-long : (re im : List Float) → length re ≡ length im → length (samplesOf re im) ≡ length re
-unfolding samplesOf
-samples-long [] im h = refl
-samples-long (x ∷ re) [] h = absurd (omega arith)
-samples-long (x ∷ re) (y ∷ im) h = ap suc (samples-long re im (omega arith))
-
 pub samples-count : (n : ℕ) (re im : List Float) → length re ≡ n → length im ≡ n → length (samplesOf re im) ≡ n
-samples-count n re im u v = samples-long re im (u ∙ sym v) ∙ u
+samples-count n re im u v = omega (arith, length-samples re im)

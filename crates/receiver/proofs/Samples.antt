@@ -16,11 +16,6 @@ use Rattle.slot_receiver.specs.Receiver.{Receiver, validCount, processSample, m
 use Rattle.slot_receiver.specs.Calls.{sampleRefusal}
 use Rattle.slot_receiver.specs.Bounds.{Counter}
 
--- a difference that is not negative
-not-negative : (z : ℤ) → dn z ≤ up z → z ≡ pos (mag z)
-not-negative (pos n) h = refl
-not-negative (negsuc n) h = absurd (omega arith)
-
 few : (z : ℤ) → dn z ≤ up z → mag z < 1020 → mag z ≡ missing z
 unfolding missing
 few (pos n) h k = sym (min-eq-left (omega arith))

@@ -48,11 +48,19 @@ fill-none bits out = refl
 pub fill-all : (bits out : List ℕ) (i : ℕ) → length out ≤ i → padded i bits ++ drop i out ≡ padded i bits
 fill-all bits out i h = rw (drop-of-length-le out h) (append-nil (padded i bits))
 
-length-padded : (n : ℕ) (bits : List ℕ) → length (padded n bits) ≡ n
+pub length-padded : (n : ℕ) (bits : List ℕ) → length (padded n bits) ≡ n
 unfolding padded
 length-padded zero bits = refl
 length-padded (suc n) [] = ap suc (length-padded n [])
 length-padded (suc n) (b ∷ bits) = ap suc (length-padded n bits)
+
+-- the bits in front
+pub padded-front : (n : ℕ) (bits : List ℕ) → length bits ≤ n → take (length bits) (padded n bits) ≡ bits
+unfolding padded
+padded-front zero [] h = refl
+padded-front zero (b ∷ bits) h = absurd (omega arith)
+padded-front (suc n) [] h = refl
+padded-front (suc n) (b ∷ bits) h = ap (λ (l : List ℕ). b ∷ l) (padded-front n bits (omega arith))
 
 -- what is behind the filled bytes is as it was, so that filling may go on from there
 pub fill-on : (n : ℕ) (bits out now : List ℕ) → now ≡ padded n bits ++ drop n out → now ≡ padded n bits ++ drop n now

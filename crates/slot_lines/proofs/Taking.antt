@@ -17,6 +17,7 @@ use Rattle.receiver.specs.declared.State.{State}
 use Rattle.slot_receiver.specs.declared.take.TakeAnswer.{TakeAnswer}
 use Rattle.slot_receiver.specs.declared.take.TakeAnswer.the-variants as TakeAnswer
 use Rattle.rx_slot.specs.Views.{BurstView, noView, isFound, validView, storedView, padded, burstShown}
+use Rattle.rx_slot.proofs.Laws.{padded-front}
 use Rattle.rx_slot.specs.Slots.{HandedSlot, withViews, validSlot, filled, shown}
 use Rattle.slot_receiver.specs.Receiver.{Receiver}
 use Rattle.slot_receiver.specs.View.{receiverFrom}
@@ -61,12 +62,6 @@ few-bits s re im abs =
     record { full = few 510 (d .«full_bits») (b .full); first = few 254 (d .«subslot1_bits») (b .subslot1); second = few 254 (d .«subslot2_bits») (b .subslot2) }
 
 -- ---- the slot that was taken
-
-padded-front : (n : ℕ) (bits : List ℕ) → length bits ≤ n → take (length bits) (padded n bits) ≡ bits
-unfolding padded
-padded-front n [] h = refl
-padded-front zero (b ∷ bits) h = absurd (omega arith)
-padded-front (suc n) (b ∷ bits) h = ap (λ (l : List ℕ). b ∷ l) (padded-front n bits (omega arith))
 
 module _ (style : Style) where
   -- the line of a slot in numbers and of the bytes that were lent

@@ -1,6 +1,6 @@
 -- Which windows hand a slot over. Assumes nothing.
 use mathlib.Core.Path.{_≡_, refl, sym}
-use mathlib.Core.Bool.{Bool, true, false, _||_}
+use mathlib.Core.Bool.{true, false, _||_, or-false}
 use Prim.Native.Nat.{ℕ, zero, suc}
 use native.Mathlib.Omega.{arith}
 use lib.Dec.{eqb}
@@ -11,10 +11,6 @@ use Rattle.slot_receiver.specs.declared.Mode.the-variants.{Idle, DlUnsyn
 use Rattle.slot_receiver.specs.Receiver.{Receiver, closeWindow}
 use Rattle.slot_receiver.specs.Windows.{searchKind, kindOf, isSlot, handsOver, windowIf}
 use Rattle.slot_receiver.specs.View.{modeOf}
-
-or-false : (b : Bool) → (b || false) ≡ b
-or-false true = refl
-or-false false = refl
 
 search-hands-none : (m : Mode) → false ≡ isSlot (searchKind m)
 unfolding isSlot searchKind

@@ -1,5 +1,5 @@
 -- Between windows samples are only kept. Assumes nothing.
-use mathlib.Core.Path.{_≡_, refl, sym, ap}
+use mathlib.Core.Path.{_≡_, refl}
 use mathlib.Core.Bool.{Bool, true, false, cond, _||_, _&&_, not}
 use Prim.Native.Nat.{ℕ, _+_, _≤_, _<_, _%_, _^_}
 use native.Mathlib.Nat.{mod-eq-of-lt}
@@ -8,6 +8,7 @@ use lib.Dec.{ltb, leb}
 use lib.IntN.{ℤ, pos, negsuc, natAbs, _+ℤ_, _-ℤ_}
 use lib.Signed.{ltZ, mag}
 use borrow.Author.Tests.{ltb-true, leb-true}
+use Rattle.dsp_types.proofs.Laws.{both-true}
 use Rattle.dsp_types.specs.Ints.{up, dn, eqZ}
 use Rattle.dsp_types.proofs.IntLaws.{sum, less, same, parts, ltZ-false}
 use Rattle.dsp_types.specs.Refusals.{counters}
@@ -17,20 +18,6 @@ use Rattle.slot_receiver.specs.Quiet.{stands, untilClose, mostQuiet, las
 use Rattle.slot_receiver.specs.Bounds.{Within}
 use Rattle.slot_receiver.proofs.Signed.{eqZ-true}
 use Rattle.slot_receiver.proofs.Doors.{valid-within}
-
--- ---- tests
-
-pub and-true : (a b : Bool) → (a && b) ≡ true → (a ≡ true) × (b ≡ true)
-and-true true b e = (refl, e)
-and-true false b e = absurd (let z : _≡_ {A = ℕ} 0 1 = cc in omega arith)
-
-pub not-true : (b : Bool) → not b ≡ true → b ≡ false
-not-true true e = absurd (let z : _≡_ {A = ℕ} 0 1 = cc in omega arith)
-not-true false e = refl
-
-pub not-false : (b : Bool) → not b ≡ false → b ≡ true
-not-false true e = refl
-not-false false e = absurd (let z : _≡_ {A = ℕ} 0 1 = cc in omega arith)
 
 -- a number between two others
 pub record Between (l : ℤ) (x : ℤ) (h : ℤ) : Type 0 where
@@ -58,9 +45,9 @@ alike x y e = same x y (eqZ-true x y e)
 pub stands-as : (k : Clock) (misses : ℕ) → stands k misses ≡ true → Stands k misses
 unfolding stands validClock
 stands-as k misses e =
-    let a = and-true (eqZ (validTime farReference (k .referenceTime)) (k .referenceTime)) (eqZ (validTime farReady (k .slotReadyTime)) (k .slotReadyTime) && (ltb (k .currentSlot) slots && leb misses lostAt)) e in
-    let b = and-true (eqZ (validTime farReady (k .slotReadyTime)) (k .slotReadyTime)) (ltb (k .currentSlot) slots && leb misses lostAt) (a .1) in
-    let d = and-true (ltb (k .currentSlot) slots) (leb misses lostAt) (b .1) in
+    let a = both-true (eqZ (validTime farReference (k .referenceTime)) (k .referenceTime)) (eqZ (validTime farReady (k .slotReadyTime)) (k .slotReadyTime) && (ltb (k .currentSlot) slots && leb misses lostAt)) e in
+    let b = both-true (eqZ (validTime farReady (k .slotReadyTime)) (k .slotReadyTime)) (ltb (k .currentSlot) slots && leb misses lostAt) (a .1) in
+    let d = both-true (ltb (k .currentSlot) slots) (leb misses lostAt) (b .1) in
     let reference = alike (validTime farReference (k .referenceTime)) (k .referenceTime) (a .0) in
     let ready = alike (validTime farReady (k .slotReadyTime)) (k .slotReadyTime) (b .0) in
     let slot : k .currentSlot % slots ≡ k .currentSlot = mod-eq-of-lt (ltb-true (k .currentSlot) slots (d .0)) in

@@ -1,6 +1,6 @@
 pub mod Signed
 pub mod Times
-mod Views
+pub mod Views
 pub mod Doors
 pub mod Keeping
 mod Taking

@@ -1,13 +1,14 @@
 -- A take's slices, and an order to follow. Assumes nothing.
 use mathlib.Core.Path.{_≡_, refl}
-use mathlib.Core.Bool.{Bool, true, false, cond, not, _||_}
+use mathlib.Core.Bool.{Bool, true, false, cond, _||_}
 use mathlib.Core.List.{List}
 use Prim.Native.Nat.{ℕ}
 use native.Mathlib.Omega.{arith}
 use lib.Dec.{eqb}
 use lib.ListN.{length}
-use borrow.Author.Tests.{ne-eqb, eqb-true}
+use borrow.Author.Tests.{ne-eqb}
 use Rattle.dsp_types.specs.Refusals.{wrongLength}
+use Rattle.dsp_types.proofs.Laws.{right-length}
 use Rattle.slot_receiver.specs.declared.Mode.{Mode}
 use Rattle.slot_receiver.specs.declared.Mode.the-variants.{Idle, DlUnsynchronized, Dl, Ul}
 use Rattle.slot_receiver.specs.Receiver.{Receiver, withMode, withClock}
@@ -15,19 +16,12 @@ use Rattle.slot_receiver.specs.Calls.{takeRefusal, followRefusal, slotWh
 use Rattle.slot_receiver.specs.View.{modeOf, modeFollowing}
 
 -- an answered take has slices of the right lengths
-right-length : (l n : ℕ) → not (eqb l n) ≡ false → l ≡ n
-right-length l n e = eqb-true l n (back (eqb l n) e)
-  where
-    back : (b : Bool) → not b ≡ false → b ≡ true
-    back true e = refl
-    back false e = absurd (let z : _≡_ {A = ℕ} 0 1 = cc in omega arith)
-
 pub right-lengths : (slot first second : List ℕ) (available : Bool) → takeRefusal slot first second available ≡ 0
     → (length slot ≡ 510) × (length first ≡ 254) × (length second ≡ 254)
-unfolding takeRefusal wrongLength
+unfolding takeRefusal
 right-lengths slot first second available e =
-    let w = go (not (eqb (length slot) 510)) (not (eqb (length first) 254)) (not (eqb (length second) 254)) available e in
-    (right-length (length slot) 510 (w .0), right-length (length first) 254 (w .1), right-length (length second) 254 (w .2))
+    let w = go (wrongLength 510 slot) (wrongLength 254 first) (wrongLength 254 second) available e in
+    (right-length 510 slot (w .0), right-length 254 first (w .1), right-length 254 second (w .2))
   where
     go : (x y z w : Bool) → _≡_ {A = ℕ} (cond (x || (y || z)) 3 (cond w 0 11)) 0 → (x ≡ false) × (y ≡ false) × (z ≡ false)
     go true y z w e = absurd (omega (arith, e))

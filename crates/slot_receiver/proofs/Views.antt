@@ -16,7 +16,7 @@ use Rattle.burst_finder.specs.declared.SlotType.the-variants as SlotType
 use Rattle.burst_finder.specs.Search.{findSync, below}
 use Rattle.burst_finder.proofs.Turns.{below-close, below-far}
 use Rattle.burst_finder.proofs.Lock.{Placed}
-use Rattle.listener.specs.declared.window.Window.{Window}
+use Rattle.listener.specs.declared.window.Reading.{Reading}
 use Rattle.listener.specs.Signal.{slotTiming, windowBits}
 use Rattle.listener.specs.View.{Reads}
 use Rattle.listener.proofs.Reading.{read-bits}
@@ -64,7 +64,7 @@ mode-lost misses h = rw (le-leb 100 misses h)
 -- ---- a search window
 
 -- the place of the synchronization sequence, and its errors
-module _ (r : Receiver) (w : Window) (read : Reads (r .signal) 1024 256 w) (b : Found) (at : b ≡ below 2 (findSync (take 510 (w .bits)))) where
+module _ (r : Receiver) (w : Reading) (read : Reads (r .signal) 1024 256 w) (b : Found) (at : b ≡ below 2 (findSync (take 510 (w .bits)))) where
   abbrev all : Found
   all = findSync (windowBits (r .signal))
 
@@ -91,7 +91,7 @@ module _ (r : Receiver) (w : Window) (read : Reads (r .signal) 1024 256 w) (b : 
 
 -- ---- a slot that is handed over
 
-pub handed-over : (r : Receiver) (w : Window) (v : BurstView) (type : ℕ) → Reads (r .signal) 1024 256 w → v ≡ checked SlotType.Dl (take 510 (w .bits))
+pub handed-over : (r : Receiver) (w : Reading) (v : BurstView) (type : ℕ) → Reads (r .signal) 1024 256 w → v ≡ checked SlotType.Dl (take 510 (w .bits))
     → type ≡ checked SlotType.Dl (take 510 (w .bits)) .type → (m : Mode) (l : Lock) → l ≡ lockAfter (r .lock) (w .timing) type → m ≡ modeAfter (l .misses)
     → handOver (withMode (withLock r l) m) (downlinkSlot r v) ≡ processPastSamples Dl r
 unfolding processPastSamples downlinkWindow slotTiming
@@ -108,7 +108,7 @@ pub miss : (l : Lock) (timing : Float) (type : ℕ) → type ≡ 0 → record { 
 unfolding lockAfter
 miss l timing type e = rw (e, add-one (l .misses))
 
-pub uplinked : (r : Receiver) (w w1 w2 : Window) (v v1 v2 : BurstView) (time : ℕ) → Reads (r .signal) 1024 256 w → Reads (r .signal) 1024 128 w1
+pub uplinked : (r : Receiver) (w w1 w2 : Reading) (v v1 v2 : BurstView) (time : ℕ) → Reads (r .signal) 1024 256 w → Reads (r .signal) 1024 128 w1
     → Reads (r .signal) 514 128 w2 → v ≡ checked SlotType.UlFull (take 510 (w .bits)) → v1 ≡ checked SlotType.UlSub (take 254 (w1 .bits))
     → v2 ≡ checked SlotType.UlSub (take 254 (w2 .bits)) → time ≡ slotOf (pos (r .clock .currentSlot) -ℤ pos 2)
     → handOver r (record { time = time; full = v; subslot1 = v1; subslot2 = v2 }) ≡ processPastSamples Ul r

@@ -15,7 +15,7 @@ use Rattle.timing.specs.Tracking.{averagedOf, settledOf, movedOf}
 use Rattle.burst_finder.specs.declared.SlotType.the-variants as SlotType
 use Rattle.burst_finder.specs.Search.{findSync}
 use Rattle.burst_finder.specs.Slots.{mostErrors}
-use Rattle.listener.specs.Signal.{Signal, quiet, hear, bitsOf, slotTiming, windowBits}
+use Rattle.listener.specs.Signal.{Signal, unheard, hear, bitsOf, slotTiming, windowBits}
 use Rattle.rx_slot.specs.Views.{BurstView, noView, checked}
 use Rattle.rx_slot.specs.Slots.{HandedSlot, withViews, noSlot}
 use Rattle.slot_receiver.specs.declared.Mode.{Mode}
@@ -100,7 +100,7 @@ new m =
       waits = false;
       slot = noSlot;
       next = pos 0;
-      signal = quiet;
+      signal = unheard;
     }
 
 -- ---- `process_slot`, for each mode

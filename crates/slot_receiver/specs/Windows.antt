@@ -11,9 +11,9 @@ use Rattle.slot_receiver.specs.declared.Mode.the-variants.{Idle, DlUnsyn
 use Rattle.slot_receiver.specs.Receiver.{Receiver, processSample, listen, ready, closes, closeWindow, feedZeros, zerosBefore}
 
 -- a search window that leaves the receiver searching, one that it locks on, or a slot that is handed over. (An idle receiver's window is
--- read by nobody: `quiet`.)
+-- read by nobody: `searched`.)
 pub data Kind : Type 0 where
-  quiet lock : Kind
+  searched lock : Kind
   slot : HandedSlot → Kind
 
 pub record Window : Type 0 where
@@ -22,14 +22,14 @@ pub record Window : Type 0 where
 
 -- a search window, by the mode after it
 unfoldable pub searchKind : Mode → Kind
-searchKind Idle = quiet
-searchKind DlUnsynchronized = quiet
+searchKind Idle = searched
+searchKind DlUnsynchronized = searched
 searchKind Dl = lock
-searchKind Ul = quiet
+searchKind Ul = searched
 
 -- what the window was, by the mode before it closed and the receiver after
 unfoldable pub kindOf : Mode → Receiver → Kind
-kindOf Idle r = quiet
+kindOf Idle r = searched
 kindOf DlUnsynchronized r = searchKind (r .mode)
 kindOf Dl r = slot (r .slot)
 kindOf Ul r = slot (r .slot)
@@ -54,7 +54,7 @@ unfoldable pub acceptWindows : Receiver → ComplexSample → ℤ → List Windo
 acceptWindows r x c = windowOf (feedZeros (zerosBefore r c) r c) x c ++ zerosWindows (zerosBefore r c) r c
 
 unfoldable pub isSlot : Kind → Bool
-isSlot quiet = false
+isSlot searched = false
 isSlot lock = false
 isSlot (slot h) = true
 

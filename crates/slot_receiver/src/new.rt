@@ -8,7 +8,7 @@ use rx_slot::RxSlot;
 use rx_slot::no_burst;
 ghost use mathlib.Core.Path.{_≡_};
 ghost use lib.IntN.{pos};
-ghost use Rattle.listener.specs.Signal.{quiet};
+ghost use Rattle.listener.specs.Signal.{unheard};
 ghost use Rattle.slot_receiver.specs.Receiver.{new};
 ghost use Rattle.slot_receiver.specs.View.{modeNumber, receiverFrom};
 
@@ -26,7 +26,7 @@ fn number(mode: Mode) -> u8
 
 impl SlotReceiver {
     pub fn new(initial_mode: Mode) -> SlotReceiver
-        ensures receiver { λ r. ⌜ receiverFrom r (pos 0) quiet ≡ new «initial_mode» ⌝ }
+        ensures receiver { λ r. ⌜ receiverFrom r (pos 0) unheard ≡ new «initial_mode» ⌝ }
         ensures mode { λ r. ⌜ r .mode ≡ modeNumber «initial_mode» ⌝ }
     {
         let mode = number(initial_mode);

@@ -81,11 +81,11 @@ impl SlotReceiver {
         }
         // The step to the next slot makes the current one 0, and the next sample skips that: the burst found is slot 1.
         let reference = found_time(self.slot_ready_time, found.pos);
-        let mut d = self.emptied(TdmaTime::from_int(FIRST_SLOT));
-        d.reference_time = reference;
-        d.averaged_timing_error = averaged(0.0, w.timing);
-        d.slots_since_last_valid_burst = 0;
-        let mut locked = d.set_slot(TdmaTime::from_int(SLOT_AT_FIND));
+        let mut anew = self.emptied(TdmaTime::from_int(FIRST_SLOT));
+        anew.reference_time = reference;
+        anew.averaged_timing_error = averaged(0.0, w.timing);
+        anew.slots_since_last_valid_burst = 0;
+        let mut locked = anew.set_slot(TdmaTime::from_int(SLOT_AT_FIND));
         locked.mode = 2;
         locked
     }

@@ -6,13 +6,13 @@ use Rattle.slot_text.specs.declared.Form.{Form}
 use Rattle.slot_text.specs.declared.Form.the-variants.{Plain, Json}
 
 -- a value: a number, or the characters of a word
-pub data Value : Type 0 where
-  number : ℕ → Value
-  word : List ℕ → Value
+pub data FieldValue : Type 0 where
+  number : ℕ → FieldValue
+  word : List ℕ → FieldValue
 
 pub record Field : Type 0 where
   pub name : List ℕ
-  pub value : Value
+  pub value : FieldValue
 
 abbrev pub numberField : List ℕ → ℕ → Field
 numberField name n = record { name = name; value = number n }
@@ -47,7 +47,7 @@ closing form = byForm form (ascii "\n") (ascii "}\n")
 unfoldable pub quoted : Form → List ℕ → List ℕ
 quoted form w = quote form ++ (w ++ quote form)
 
-unfoldable pub valueText : Form → Value → List ℕ
+unfoldable pub valueText : Form → FieldValue → List ℕ
 valueText form (number n) = decimal 20 n
 valueText form (word w) = quoted form w
 

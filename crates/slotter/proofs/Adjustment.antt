@@ -84,9 +84,9 @@ odd-cases P p₁ p₃ p₅ p₇ m h e =
     subst P whole (halves P p₁ p₃ p₅ p₇ (m / 2) (omega arith))
 
 -- The adjustment's phase plus an odd sum is 0 modulo 8,
-pub adjustment-closes : (sum : ℤ) → modulo8 sum % 2 ≡ 1 → modulo8 (phaseSum (adjustment sum) +ℤ sum) ≡ 0
+pub adjustment-cancels : (sum : ℤ) → modulo8 sum % 2 ≡ 1 → modulo8 (phaseSum (adjustment sum) +ℤ sum) ≡ 0
 unfolding modulo8 phaseSum phaseOf cancelsAt adjustmentAt
-adjustment-closes sum odd =
+adjustment-cancels sum odd =
     modulo8-sum (phaseSum (adjustment sum)) sum
     ∙ ap (λ bits. (modulo8 (phaseSum bits) + modulo8 sum) % 8) (adjustment-at sum)
     ∙ odd-cases (λ m. (modulo8 (phaseSum (adjustmentAt m)) + m) % 8 ≡ 0) refl refl refl refl (modulo8 sum) (modulo8-lt sum) odd

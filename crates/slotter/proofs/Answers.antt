@@ -50,6 +50,15 @@ refuses (suc n) last fields e h p = p ∙ ap refusal e
 pub accepts : {t : BuilderReply} {k : ℕ} (n last : ℕ) (fields : List ℕ) → k ≡ n → k ≡ 0 → t ≡ burstUnless 0 last fields → t ≡ burstUnless n last fields
 accepts n last fields e h p = p ∙ ap (λ (m : ℕ). burstUnless m last fields) (sym h ∙ e)
 
+-- a burst's bits are its reply's
+pub told-bits : (burst : Burst) → burst .bits ≡ builderReply burst .bits
+unfolding builderReply
+told-bits burst = go (burst .answer) (burst .bits)
+  where
+    go : (answer : Answer) (bits : List ℕ) → bits ≡ builderReply (record { answer = answer; bits = bits }) .bits
+    go (Built first last) bits = refl
+    go (Refused n) bits = refl
+
 -- the number and the bits of an answer
 pub burst-number : (n last : ℕ) (fields : List ℕ) → burstUnless n last fields .number ≡ n
 unfolding burstUnless refusal

@@ -4,5 +4,5 @@ mod Folding
 pub mod Windows
 mod Fields
 mod Refusal
-mod Answers
+pub mod Answers
 pub mod Places

@@ -12,7 +12,7 @@ use Rattle.dsp_types.specs.Phases.{modulo8}
 use Rattle.slotter.specs.Phases.{phaseSum, adjustment}
 use Rattle.slotter.specs.Bursts.{firstWindow, lastWindow, downlink, syncFields, normalFields, trainingOf, trainingRefusal, syncBurst, normalBurst}
 use Rattle.slotter.specs.Places.{symbols, Adjusts, SyncPlaces, NormalPlaces}
-use Rattle.slotter.proofs.Adjustment.{adjustment-closes, adjustment-only}
+use Rattle.slotter.proofs.Adjustment.{adjustment-cancels, adjustment-only}
 use Rattle.slotter.proofs.Windows.{first-odd, last-odd}
 use Rattle.slotter.proofs.Folding.{adjustment-length}
 use Rattle.slotter.proofs.Fields.{training-length}
@@ -29,7 +29,7 @@ adjusts : (place from to : ℕ) (bits w : List ℕ) → symbols place place bits
     → Adjusts place from to bits
 adjusts place from to bits w e f odd =
     record {
-      closes = rw (e, f) (adjustment-closes (phaseSum w) odd);
+      zero-sum = rw (e, f) (adjustment-cancels (phaseSum w) odd);
       only = λ a b h k g. e ∙ adjustment-only (phaseSum w) a b h k (rw f at g);
     }
 

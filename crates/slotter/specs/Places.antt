@@ -17,7 +17,7 @@ symbols from to bits = slice (2 * (from - 1)) (2 * to) bits
 
 -- clause 9.4.4.3: of the four symbols, exactly the one at `place` has a phase whose sum with the window's is 0 modulo 8
 pub record Adjusts (place from to : ℕ) (bits : List ℕ) : Type 0 where
-  pub closes : modulo8 (phaseSum (symbols place place bits) +ℤ phaseSum (symbols from to bits)) ≡ 0
+  pub zero-sum : modulo8 (phaseSum (symbols place place bits) +ℤ phaseSum (symbols from to bits)) ≡ 0
   pub only : (a b : ℕ) → a < 2 → b < 2 → modulo8 (phaseOf a b +ℤ phaseSum (symbols from to bits)) ≡ 0 → symbols place place bits ≡ a ∷ b ∷ []
 
 -- clause 9.4.4.2.6

@@ -35,6 +35,19 @@ pub struct Burst {
     pub bits: [u8; 510],
 }
 
+impl Burst {
+    // 0, or the refusal's number.
+    pub fn number(self) -> u32
+        ensures { λ r. ⌜ r ≡ builderReply self .number ⌝ }
+    {
+        let answer = self.answer;
+        match answer {
+            Answer::Built(_, _) => ACCEPTED,
+            Answer::Refused(number) => number,
+        }
+    }
+}
+
 // The answer that refuses.
 fn refused(number: u32) -> Burst
     ensures { λ r. ⌜ builderReply r ≡ refusal number ⌝ }

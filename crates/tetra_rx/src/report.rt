@@ -2,6 +2,11 @@
 use libc::STDERR_FILENO;
 use text::Text;
 
+// Takes the progress line away, before a line that may stand on the same terminal.
+pub(crate) fn clear() {
+    Text::new().append(b"\r\x1b[K").print(STDERR_FILENO);
+}
+
 // Where a report begins, of the downlink or of an uplink beside it. It takes the place of a progress line.
 pub(crate) fn begun(is_up: bool, is_progress: bool) -> Text {
     let start = Text::new();
@@ -38,6 +43,12 @@ pub(crate) fn with_mode(text: Text, mode: u8) -> Text {
     } else {
         text.append(b"searching")
     }
+}
+
+// A level, so many dB below full scale.
+pub(crate) fn with_level(text: Text, below: u32) -> Text {
+    let signed = if below == 0 { text } else { text.append(b"-") };
+    signed.decimal(below as u64).append(b" dBFS")
 }
 
 pub(crate) fn tell(text: Text, words: &[u8]) {

@@ -75,6 +75,9 @@ impl Tally {
 
     // With a slot whose line is printed.
     pub(crate) fn print(self, is_up: bool, line: Text) -> Tally {
+        if self.is_progress {
+            report::clear();
+        }
         let mut next = self;
         next.is_open = line.print(STDOUT_FILENO);
         if !next.is_open {

@@ -39,7 +39,7 @@ pub fn trimmed(bytes: &[u8], c: u8) -> &[u8]
 }
 
 // The character of a bit.
-pub fn character_of(bit: u8) -> u8
+fn character_of(bit: u8) -> u8
     ensures { λ r. ⌜ r ≡ characterOf bit ⌝ }
 {
     if bit == 0 { b'0' } else { b'1' }
@@ -97,11 +97,11 @@ impl Text {
     }
 
     // With a burst type's name behind it.
-    pub fn type_name(self, kind: u32) -> Text
-        ensures { λ r. ⌜ textOf r ≡ cut (textOf self ++ typeName kind) ⌝ }
+    pub fn type_name(self, burst_type: u32) -> Text
+        ensures { λ r. ⌜ textOf r ≡ cut (textOf self ++ typeName «burst_type») ⌝ }
         ensures { λ r. ⌜ (r .len ≤ 2048) × (r .len ≡ length (textOf r)) ⌝ }
     {
-        match kind {
+        match burst_type {
             1 => self.append(b"normal1"),
             2 => self.append(b"normal2"),
             3 => self.append(b"extended"),

@@ -17,7 +17,7 @@ use Rattle.dsp_types.specs.Samples.{zeroF, oneF}
 use Rattle.timing.specs.Floats.{halfF, twoF, fourF, bend}
 use Rattle.timing.specs.Turns.{absoluteOf, curveOf, octantOf, wrappedOf, quadrantOf, directed, quarterTurns}
 use Rattle.timing.specs.Document.{InTurn}
-use Rattle.timing.proofs.Within.{Within, Holds, weaken, mul-within, add-within, sub-within, div-within}
+use Rattle.timing.proofs.Sizes.{AtMost, Holds, weaken, mul-within, add-within, sub-within, div-within}
 
 -- ---- the bounds that are used are f32s
 holds-1 : Holds 1 1
@@ -45,32 +45,32 @@ unfolding round
 holds-6-8 = (refl, refl)
 
 -- ---- u lies from 0 to 1
-half-within : Within halfF false 1 2
+half-within : AtMost halfF false 1 2
 unfolding ofBits
 half-within = record { over = lit< tt; size = (refl, lit≤ tt) }
 
-two-within : Within twoF false 2 1
+two-within : AtMost twoF false 2 1
 unfolding ofBits
 two-within = record { over = lit< tt; size = (refl, lit≤ tt) }
 
-bend-within : Within bend false 1 4
+bend-within : AtMost bend false 1 4
 unfolding bend
 bend-within = record { over = lit< tt; size = (refl, lit≤ tt) }
 
 -- 1, 2 and 4 less a value from 0 to that
-one-less : {y : Float} → Within y false 1 1 → Within (sub binary32 oneF y) false 1 1
+one-less : {y : Float} → AtMost y false 1 1 → AtMost (sub binary32 oneF y) false 1 1
 unfolding ofBits
 one-less w = sub-within oneF holds-1 (refl, refl) w
 
-two-less : {y : Float} → Within y false 2 1 → Within (sub binary32 twoF y) false 2 1
+two-less : {y : Float} → AtMost y false 2 1 → AtMost (sub binary32 twoF y) false 2 1
 unfolding ofBits
 two-less w = sub-within twoF holds-2 (refl, refl) w
 
-four-less : {y : Float} → Within y false 4 1 → Within (sub binary32 fourF y) false 4 1
+four-less : {y : Float} → AtMost y false 4 1 → AtMost (sub binary32 fourF y) false 4 1
 unfolding ofBits
 four-less w = sub-within fourF holds-4 (refl, refl) w
 
-curve-within : (z : Float) → Within z false 1 1 → Within (curveOf z) false 1 1
+curve-within : (z : Float) → AtMost z false 1 1 → AtMost (curveOf z) false 1 1
 unfolding curveOf
 curve-within z w = weaken 1 1 (lit< tt) (lit≤ tt) (mul-within holds-6-8 w (add-within holds-6-8 half-within (mul-within holds-1-4 bend-within (one-less w))))
 
@@ -96,12 +96,12 @@ module _ (s : Bool) (m : ℕ) (e : ℤ) (t : Bool) (n : ℕ) (f : ℤ) where
         ]
   ]
 
-  octant-within : directed (fin s m e) (fin t n f) ≡ true → Within (octantOf (fin false m e) (fin false n f)) false 1 1
+  octant-within : directed (fin s m e) (fin t n f) ≡ true → AtMost (octantOf (fin false m e) (fin false n f)) false 1 1
   unfolding octantOf lt
   octant-within d = go (ltb (m * up e * down f) (n * up f * down e)) refl
     where
       go : (b : Bool) → ltb (m * up e * down f) (n * up f * down e) ≡ b
-          → Within (cond b (sub binary32 oneF (curveOf (div binary32 (fin false m e) (fin false n f)))) (curveOf (div binary32 (fin false n f) (fin false m e)))) false 1 1
+          → AtMost (cond b (sub binary32 oneF (curveOf (div binary32 (fin false m e) (fin false n f)))) (curveOf (div binary32 (fin false n f) (fin false m e)))) false 1 1
       go true p =
           let h = ltb-true (m * up e * down f) (n * up f * down e) p in
           one-less (curve-within (div binary32 (fin false m e) (fin false n f)) (div-within m e n f (first-pos (n * up f) (down e) (lt-of-le-of-lt zero-le h)) (le-of-lt h) holds-1))
@@ -126,14 +126,14 @@ unfolding ofBits
 zero-in-turn = in-turn 0 (pos 0) (ofBits-fits binary32 0) (lit< tt)
 
 -- at most 3
-three-in-turn : (x : Float) → T (fits binary32 x) → Within x false 3 1 → InTurn x
+three-in-turn : (x : Float) → T (fits binary32 x) → AtMost x false 3 1 → InTurn x
 three-in-turn nan f w = absurd (w .size)
 three-in-turn (inf s) f w = absurd (w .size)
 three-in-turn (fin true m e) f w = absurd (true≢false (w .size .0))
 three-in-turn (fin false m e) f w = in-turn m e f (omega (arith, w .size .1, down-pos e))
 
 -- at most 4, and 0.0 instead of 4
-wrapped-in-turn : (x : Float) → T (fits binary32 x) → Within x false 4 1 → InTurn (wrappedOf x)
+wrapped-in-turn : (x : Float) → T (fits binary32 x) → AtMost x false 4 1 → InTurn (wrappedOf x)
 unfolding wrappedOf eq ofBits
 wrapped-in-turn nan f w = absurd (w .size)
 wrapped-in-turn (inf s) f w = absurd (w .size)
@@ -146,7 +146,7 @@ wrapped-in-turn (fin false m e) f w = go (eqb (m * up e * 1) (4 * down e)) refl
         let other : m * up e * 1 ≡ 4 * down e → ⊥ = eqb-false (m * up e * 1) (4 * down e) p in
         in-turn m e f (omega (arith, w .size .1))
 
-quadrant-in-turn : (i-below q-below : Bool) (u : Float) → T (fits binary32 u) → Within u false 1 1 → InTurn (quadrantOf i-below q-below u)
+quadrant-in-turn : (i-below q-below : Bool) (u : Float) → T (fits binary32 u) → AtMost u false 1 1 → InTurn (quadrantOf i-below q-below u)
 unfolding quadrantOf
 quadrant-in-turn false false u f w = three-in-turn u f (weaken 3 1 (lit< tt) (lit≤ tt) w)
 quadrant-in-turn true false u f w =
@@ -164,7 +164,7 @@ pub turns-law : (i q : Float) → InTurn (quarterTurns i q)
 unfolding quarterTurns
 turns-law i q = go (directed i q) refl
   where
-    inner : (i q : Float) → directed i q ≡ true → Within (octantOf (absoluteOf i) (absoluteOf q)) false 1 1
+    inner : (i q : Float) → directed i q ≡ true → AtMost (octantOf (absoluteOf i) (absoluteOf q)) false 1 1
     inner nan q d = absurd (true≢false (sym d))
     inner (inf s) q d = absurd (true≢false (sym d))
     inner (fin s m e) nan d = absurd (true≢false (sym d))

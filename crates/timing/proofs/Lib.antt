@@ -1,4 +1,4 @@
-pub mod Within
+pub mod Sizes
 pub mod Cases
 pub mod Law
 pub mod Parts

@@ -7,7 +7,7 @@ use native.Mathlib.Numerals.{add-one}
 use native.Mathlib.Omega.{arith}
 use lib.Ieee.{Float, binary32, add, sub}
 use Rattle.dsp_types.specs.Samples.{ago, zeroF}
-use Rattle.dsp_types.specs.Ring.{Agree}
+use Rattle.dsp_types.proofs.RingLaws.{Agree}
 use Rattle.timing.specs.Document.{InTurn}
 use Rattle.timing.specs.Estimate.{sumI, sumQ, estimateTiming}
 use Rattle.timing.proofs.Law.{turns-law}

@@ -1,8 +1,7 @@
 -- The averaged timing error of a locked receiver, and what it makes of the reference time (demodulator.rs 196 to 203, 337 and 338). Definitions only.
-use mathlib.Core.Path.{_≡_}
-use mathlib.Core.Bool.{Bool, false, cond}
+use mathlib.Core.Bool.{Bool, cond}
 use lib.IntN.{ℤ, pos, negsuc, _+ℤ_}
-use lib.Ieee.{Float, binary32, neg, add, sub, mul, lt, isNan}
+use lib.Ieee.{Float, binary32, neg, add, sub, mul, lt}
 use Rattle.dsp_types.specs.Samples.{oneF}
 use Rattle.timing.specs.Floats.{halfF, twoF, tenth}
 
@@ -34,9 +33,3 @@ settledOf averaged = let lowered = loweredOf averaged in cond (early lowered) (a
 unfoldable pub movedOf : Float → ℤ
 unfolding loweredOf early late
 movedOf averaged = cond (late averaged) (pos 1) (pos 0) +ℤ cond (early (loweredOf averaged)) (negsuc 0) (pos 0)
-
--- within ±0.5: a number for which neither test passes
-pub record Settled (averaged : Float) : Type 0 where
-  pub number : isNan averaged ≡ false
-  pub not-late : late averaged ≡ false
-  pub not-early : early averaged ≡ false

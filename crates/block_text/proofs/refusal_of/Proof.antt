@@ -20,13 +20,13 @@ returns-3 : tie.Need-returns-3
 unfolding refusalOf
 returns-3 c =
     let b = c .before .before .before in
-    rw (sym (b .before .wrong-length .ensures) ∙ c .before .before .if1 .left, sym (b .not-characters .ensures) ∙ c .before .if2 .left, eq-eqb (b .before .before .before .args .kind) 0 (c .if3 .taken))
+    rw (sym (b .before .wrong-length .ensures) ∙ c .before .before .if1 .left, sym (b .not-characters .ensures) ∙ c .before .if2 .left, eq-eqb (b .before .before .before .args .burst-type) 0 (c .if3 .taken))
 
 returns-4 : tie.Need-returns-4
 unfolding refusalOf
 returns-4 c =
     let b = c .before .before .before in
-    rw (sym (b .before .wrong-length .ensures) ∙ c .before .before .if1 .left, sym (b .not-characters .ensures) ∙ c .before .if2 .left, ne-eqb (b .before .before .before .args .kind) 0 (c .if3 .left))
+    rw (sym (b .before .wrong-length .ensures) ∙ c .before .before .if1 .left, sym (b .not-characters .ensures) ∙ c .before .if2 .left, ne-eqb (b .before .before .before .args .burst-type) 0 (c .if3 .left))
 
 pub refusal-of-spec : {M : Type 1} → statement M
 refusal-of-spec =

@@ -6,11 +6,11 @@ use Rattle.block_text.proofs.wanted_length.Tie as tie
 
 returns : tie.Need-returns
 unfolding wanted
-returns c = rw (eq-eqb (c .before .args .kind) 4 (c .if1 .taken))
+returns c = rw (eq-eqb (c .before .args .burst-type) 4 (c .if1 .taken))
 
 returns-2 : tie.Need-returns-2
 unfolding wanted
-returns-2 c = rw (ne-eqb (c .before .args .kind) 4 (c .if1 .left))
+returns-2 c = rw (ne-eqb (c .before .args .burst-type) 4 (c .if1 .left))
 
 pub wanted-length-spec : {M : Type 1} → statement M
 wanted-length-spec = tie.close (tie.spec returns returns-2)

@@ -34,7 +34,7 @@ returns c =
     let B = a .args .t4 in
     let h = long a in
     let t₁ : textOf (kind .append .result) ≡ cut (ascii "kind=") = rw (new .new .ensures .0) at (kind .append .ensures .0) in
-    let t₂ = then _ (typeName (a .args .kind)) t₁ (named .type-name .ensures .0) in
+    let t₂ = then _ (typeName (a .args .burst-type)) t₁ (named .type-name .ensures .0) in
     let t₃ = then _ (ascii "\nsum_first=") t₂ (lead₁ .append2 .ensures .0) in
     let t₄ = then _ (signedDecimal (a .args .first)) t₃ (rw (toZ-ofZ w32 (a .args .first) (a .fits .first)) at (sum₁ .with-signed .ensures)) in
     let t₅ = then _ (ascii "\nadj_first=") t₄ (adj₁ .append3 .ensures .0) in

@@ -7,9 +7,10 @@ use lib.IntN.{pos}
 use lib.Signed.{mag, ltZ}
 use mir.Syntax.{w32}
 use mir.ValLaws.{toZ-ofZ, toZ-pos}
+use Rattle.dsp_types.proofs.Signs.{below, above-is}
 use Rattle.text.specs.Text.{textOf, cut, ascii, decimal}
 use Rattle.text.proofs.Cutting.{then}
-use Rattle.lister.proofs.Sign.{below, above, below-signed, above-signed}
+use Rattle.lister.proofs.Sign.{below-signed, above-signed}
 use borrow.Author.Needs.{needs}
 use Rattle.lister.proofs.with_signed.Statement.{statement}
 use Rattle.lister.proofs.with_signed.Tie as tie
@@ -44,7 +45,7 @@ cast-decimal-2 : tie.Need-cast-decimal-2
 cast-decimal-2 c =
     let z = c .before .args .n in
     let e = toZ-ofZ w32 z (c .before .fits .n) in
-    rw (e, above z (rw e at (c .if1 .left))) (tt, record { fits = omega (arith, bound (c .before)) })
+    rw (e, above-is z (rw e at (c .if1 .left))) (tt, record { fits = omega (arith, bound (c .before)) })
 
 returns : tie.Need-returns
 unfolding ascii

@@ -4,15 +4,16 @@ use mathlib.Core.Bool.{false}
 use Prim.Native.Nat.{ℕ, _≤_, _<_, _-_}
 use native.Mathlib.Omega.{arith}
 use lib.ListN.{length, getD}
-use lib.Ieee.{nan, binary32, lt, ofBits}
+use lib.Ieee.{nan, lt}
 use borrow.Author.Count.{below-more}
 use borrow.Author.Needs.{needs}
-use Rattle.magnitude.proofs.Blocks.{neither}
+use Rattle.dsp_types.proofs.Laws.{neither}
+use Rattle.dsp_types.specs.Samples.{zeroF}
 use Rattle.magnitude.proofs.any_below.Statement.{statement}
 use Rattle.magnitude.proofs.any_below.Tie as tie
 
 abbrev Inv-loop : tie.InvT-loop
-Inv-loop xs found₀ i₀ i-end found i = (i ≤ length xs) × (i-end ≡ length xs) × (found ≡ false → (k : ℕ) → k < i → lt (getD xs k nan) (ofBits binary32 0) ≡ false)
+Inv-loop xs found₀ i₀ i-end found i = (i ≤ length xs) × (i-end ≡ length xs) × (found ≡ false → (k : ℕ) → k < i → lt (getD xs k nan) zeroF ≡ false)
 
 abbrev μ-loop : tie.MeasureT-loop
 μ-loop xs found₀ i₀ i-end found i = length xs - i

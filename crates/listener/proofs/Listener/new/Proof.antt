@@ -5,7 +5,7 @@ use lib.ListN.{replicate}
 use Rattle.dsp_types.specs.Samples.{zeroF, silence}
 use Rattle.dsp_types.proofs.RingLaws.{ring-zeros, sample-zeros, newest-same}
 use Rattle.history.specs.History.{heldIn, samplesIn}
-use Rattle.listener.specs.Signal.{quiet}
+use Rattle.listener.specs.Signal.{unheard}
 use Rattle.listener.specs.View.{signalFrom, signalOf}
 use borrow.Author.Needs.{needs}
 use Rattle.listener.proofs.Listener.new.Statement.{statement}
@@ -23,7 +23,7 @@ new-requires : tie.Need-new-requires
 new-requires c κs = search needs
 
 returns : tie.Need-returns
-unfolding signalOf signalFrom quiet
+unfolding signalOf signalFrom unheard
 returns c = rw (c .new .ensures, zeros-samples, zeros-held)
 
 pub new-spec : {M : Type 1} → statement M

@@ -1,8 +1,10 @@
 -- `builder::lend` meets its contract: 510 bytes are filled with a burst, or nothing is stored.
 use mathlib.Core.Path.{_≡_, sym, _∙_}
+use native.Mathlib.Omega.{arith}
 use lib.ListN.{length}
 use Rattle.slotter.specs.Bursts.{builderReply}
-use Rattle.modem.proofs.Building.{told-bits, bad-room, kept-room, builder's, filled, kept}
+use Rattle.slotter.proofs.Answers.{told-bits}
+use Rattle.modem.proofs.Building.{copied, bad-room, kept-room, builder's, filled, kept}
 use borrow.Author.Needs.{needs}
 use Rattle.modem.proofs.builder.lend.Statement.{statement}
 use Rattle.modem.proofs.builder.lend.Tie as tie
@@ -25,7 +27,7 @@ slice-aggregate-copy c = search needs
 copy-requires : tie.Need-copy-requires
 copy-requires c κs =
     let n = c .before .before .before .before in
-    size (n .before .before .before) ∙ sym (n .before .if1 .left)
+    omega (arith, size (n .before .before .before), n .before .if1 .left)
 
 same-length : tie.Need-same-length
 same-length c = search needs
@@ -36,7 +38,7 @@ returns-2 c =
     let a = n .before .before .before .args in
     let b = builderReply (a .burst) in
     let e = n .before .if1 .left in
-    (builder's b (a .bits .now) e _ (n .number .ensures), c .before .before .copy .ensures ∙ told-bits (a .burst) ∙ filled b (a .bits .now) e _ (n .number .ensures) (c .before .before .before .before .before .before .if2 .taken))
+    (builder's b (a .bits .now) e _ (n .number .ensures), c .before .before .copy .ensures .1 ∙ copied _ _ (e ∙ sym (size (n .before .before .before))) ∙ told-bits (a .burst) ∙ filled b (a .bits .now) e _ (n .number .ensures) (c .before .before .before .before .before .before .if2 .taken))
 
 returns-3 : tie.Need-returns-3
 returns-3 c =

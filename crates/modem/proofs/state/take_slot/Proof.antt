@@ -12,8 +12,8 @@ enum-known-answer c = search needs
 enum-told : tie.Need-enum-told
 enum-told c = search needs
 
-no-slot-requires : tie.Need-no-slot-requires
-no-slot-requires c κs = tt
+empty-slot-requires : tie.Need-empty-slot-requires
+empty-slot-requires c κs = tt
 
 returns : tie.Need-returns
 unfolding slotTaken takeReplyOf
@@ -25,4 +25,4 @@ returns-2 c = search needs
 
 pub take-slot-spec : {M : Type 1} → statement M
 take-slot-spec =
-    tie.close (tie.spec enum-known-answer enum-told no-slot-requires returns returns-2)
+    tie.close (tie.spec enum-known-answer enum-told empty-slot-requires returns returns-2)

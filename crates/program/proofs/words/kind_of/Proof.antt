@@ -2,7 +2,7 @@
 use mathlib.Core.Path.{_≡_, sym, _∙_}
 use mathlib.Core.Bool.{false}
 use Rattle.text.specs.Text.{ascii}
-use Rattle.program.specs.Words.{sameWord, kindOf}
+use Rattle.program.specs.Words.{sameWord, kindOfWord}
 use borrow.Author.Needs.{needs}
 use Rattle.program.proofs.words.kind_of.Statement.{statement}
 use Rattle.program.proofs.words.kind_of.Tie as tie
@@ -27,7 +27,7 @@ is-word-requires : tie.Need-is-word-requires
 is-word-requires c κs = search needs
 
 returns : tie.Need-returns
-unfolding kindOf ascii
+unfolding kindOfWord ascii
 returns c = rw (sym (c .before .is-word .ensures) ∙ c .if1 .taken)
 
 slice-aggregate-is-word-2 : tie.Need-slice-aggregate-is-word-2
@@ -37,7 +37,7 @@ is-word-requires-2 : tie.Need-is-word-requires-2
 is-word-requires-2 c κs = search needs
 
 returns-2 : tie.Need-returns-2
-unfolding kindOf ascii
+unfolding kindOfWord ascii
 returns-2 c = rw (no₁ (c .before .before .before), sym (c .before .is-word2 .ensures) ∙ c .if2 .taken)
 
 slice-aggregate-is-word-3 : tie.Need-slice-aggregate-is-word-3
@@ -47,7 +47,7 @@ is-word-requires-3 : tie.Need-is-word-requires-3
 is-word-requires-3 c κs = search needs
 
 returns-3 : tie.Need-returns-3
-unfolding kindOf ascii
+unfolding kindOfWord ascii
 returns-3 c =
     let e₂ = c .before .before .before in
     rw (no₁ (e₂ .before .before .before), no₂ e₂, sym (c .before .is-word3 .ensures) ∙ c .if3 .taken)
@@ -56,14 +56,14 @@ is-option-requires : tie.Need-is-option-requires
 is-option-requires c κs = search needs
 
 returns-4 : tie.Need-returns-4
-unfolding kindOf ascii
+unfolding kindOfWord ascii
 returns-4 c =
     let e₃ = c .before .before in
     let e₂ = e₃ .before .before .before in
     rw (no₁ (e₂ .before .before .before), no₂ e₂, no₃ e₃, sym (c .before .is-option .ensures) ∙ c .if4 .taken)
 
 returns-5 : tie.Need-returns-5
-unfolding kindOf ascii
+unfolding kindOfWord ascii
 returns-5 c =
     let e₃ = c .before .before in
     let e₂ = e₃ .before .before .before in

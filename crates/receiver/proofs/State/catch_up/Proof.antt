@@ -1,7 +1,7 @@
 -- `State::catch_up` meets its contract: zeros for what is missing, part by part.
 use mathlib.Core.Path.{_≡_, refl, ap, sym, _∙_}
-use mathlib.Core.Bool.{Bool, _||_}
-use Prim.Native.Nat.{ℕ, _-_, _≤_, _<_, _^_}
+use mathlib.Core.Bool.{Bool, _||_, or-assoc, or-false}
+use Prim.Native.Nat.{ℕ, _≤_, _<_}
 use native.Mathlib.Omega.{arith}
 use Rattle.dsp_types.specs.Ints.{up}
 use Rattle.slot_receiver.specs.View.{receiverFrom}
@@ -9,7 +9,7 @@ use Rattle.slot_receiver.specs.Receiver.{Receiver, validCount, feedZeros, zeros
 use Rattle.slot_receiver.specs.Windows.{handsOver, zerosWindows}
 use Rattle.receiver.specs.View.{receiverOf}
 use Rattle.receiver.proofs.Samples.{no-zeros, missing-below}
-use Rattle.receiver.proofs.Handing.{or-false, or-assoc, no-zeros-hand}
+use Rattle.receiver.proofs.Handing.{no-zeros-hand}
 use Rattle.slot_receiver.proofs.Doors.{valid-counter}
 use borrow.Author.Needs.{needs}
 use Rattle.receiver.proofs.State.catch_up.Statement.{statement}

@@ -1,10 +1,9 @@
 -- `State::keeps` meets its contract: by its two tests.
-use mathlib.Core.Path.{_≡_}
-use mathlib.Core.Bool.{true, not, _||_}
+use mathlib.Core.Bool.{not, _||_}
 use Prim.Native.Nat.{_<_}
 use lib.Dec.{ltb}
-use borrow.Author.Tests.{ltb-true}
-use Rattle.slot_receiver.proofs.Keeping.{and-true, not-true}
+use borrow.Author.Tests.{ltb-true, not-true}
+use Rattle.dsp_types.proofs.Laws.{both-true}
 use borrow.Author.Needs.{needs}
 use Rattle.receiver.proofs.State.keeps.Statement.{statement}
 use Rattle.receiver.proofs.State.keeps.Tie as tie
@@ -22,7 +21,7 @@ returns : tie.Need-returns
 returns c h =
     let y = c .before in
     let x = y .before in
-    let t = and-true (not (x .is-beyond .result || y .is-beyond2 .result)) (ltb 0 (c .quiet-samples .result)) h in
+    let t = both-true (not (x .is-beyond .result || y .is-beyond2 .result)) (ltb 0 (c .quiet-samples .result)) h in
     let some : 0 < c .quiet-samples .result = ltb-true 0 (c .quiet-samples .result) (t .1) in
     record {
       count = c .quiet-samples .result;

@@ -1,7 +1,7 @@
 -- `SlotReceiver::arrive` meets its contract: stage by stage.
 use mathlib.Core.Path.{_≡_, sym, ap, subst, _∙_}
 use lib.IntN.{ℤ, pos}
-use Rattle.listener.specs.Signal.{Signal, quiet}
+use Rattle.listener.specs.Signal.{Signal, unheard}
 use Rattle.slot_receiver.specs.declared.SlotReceiver.{SlotReceiver}
 use Rattle.slot_receiver.specs.Receiver.{Receiver, validCount, valid, skipped, ready, arrive}
 use Rattle.slot_receiver.specs.Windows.{windowAt}
@@ -14,7 +14,7 @@ use Rattle.slot_receiver.proofs.SlotReceiver.arrive.Statement.{statemen
 use Rattle.slot_receiver.proofs.SlotReceiver.arrive.Tie as tie
 
 -- bounds on a receiver are bounds on its stored numbers
-stored : (d : SlotReceiver) (r : Receiver) → receiverFrom d (pos 0) quiet ≡ r → Timed (r .clock) (r .lock .misses) → Timed (clockOf d) (d .«slots_since_last_valid_burst»)
+stored : (d : SlotReceiver) (r : Receiver) → receiverFrom d (pos 0) unheard ≡ r → Timed (r .clock) (r .lock .misses) → Timed (clockOf d) (d .«slots_since_last_valid_burst»)
 unfolding receiverFrom
 stored d r e h = subst (λ (q : Receiver). Timed (q .clock) (q .lock .misses)) (sym e) h
 
@@ -40,14 +40,14 @@ valid-requires c κs = search needs
 skipped-requires : tie.Need-skipped-requires
 skipped-requires c κs =
     let n = c .before in
-    (stored (c .valid .result) _ (c .valid .ensures (pos 0) quiet) (valid-timed (receiverFrom (n .before .args .self) (pos 0) quiet)), counted n)
+    (stored (c .valid .result) _ (c .valid .ensures (pos 0) unheard) (valid-timed (receiverFrom (n .before .args .self) (pos 0) unheard)), counted n)
 
 close-if-ready-requires : tie.Need-close-if-ready-requires
 unfolding ready
 close-if-ready-requires c κs =
     let n = c .before .before in
-    let r = receiverFrom (n .before .args .self) (pos 0) quiet in
-    (stored (c .skipped .result) _ (readied c (pos 0) quiet) (skipped-timed (valid r) (validCount (n .before .args .counter .0)) (valid-timed r)), counted n)
+    let r = receiverFrom (n .before .args .self) (pos 0) unheard in
+    (stored (c .skipped .result) _ (readied c (pos 0) unheard) (skipped-timed (valid r) (validCount (n .before .args .counter .0)) (valid-timed r)), counted n)
 
 returns : tie.Need-returns
 unfolding arrive windowAt

@@ -4,14 +4,15 @@ use mathlib.Core.Bool.{true, false, _||_}
 use native.Mathlib.Omega.{arith}
 use Prim.Native.Nat.{_^_}
 use lib.Dec.{lit≤}
-use lib.IntN.{ℤ, pos, negsuc, _+ℤ_, _-ℤ_}
+use lib.IntN.{ℤ, pos, negsuc}
 use lib.Signed.{ltZ}
+use borrow.Author.Tests.{not-true, not-false}
 use Rattle.slot_receiver.specs.declared.SlotReceiver.{SlotReceiver}
 use Rattle.slot_receiver.specs.Quiet.{stands, untilClose, lastQuiet}
 use Rattle.slot_receiver.specs.Bounds.{Within}
 use Rattle.slot_receiver.specs.View.{clockOf}
 use Rattle.slot_receiver.proofs.Signed.{read, plus-is, minus-is, wider, within-pos, within-sum}
-use Rattle.slot_receiver.proofs.Keeping.{not-true, not-false, Between, between, stands-as, quiet-invalid, quiet-late, quiet-none, quiet-some}
+use Rattle.slot_receiver.proofs.Keeping.{Between, between, stands-as, quiet-invalid, quiet-late, quiet-none, quiet-some}
 use borrow.Author.Needs.{needs}
 use Rattle.slot_receiver.proofs.SlotReceiver.quiet_samples.Statement.{statement}
 use Rattle.slot_receiver.proofs.SlotReceiver.quiet_samples.Tie as tie

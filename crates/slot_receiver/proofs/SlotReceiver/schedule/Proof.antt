@@ -3,7 +3,7 @@ use mathlib.Core.Path.{_≡_, sym, ap, subst, _∙_}
 use Prim.Native.Nat.{_^_}
 use lib.Dec.{lit≤}
 use lib.IntN.{pos}
-use Rattle.listener.specs.Signal.{quiet}
+use Rattle.listener.specs.Signal.{unheard}
 use Rattle.slot_receiver.specs.declared.Mode.{Mode}
 use Rattle.slot_receiver.specs.declared.Mode.the-variants.{Idle, DlUnsynchronized, Dl, Ul}
 use Rattle.slot_receiver.specs.Receiver.{Receiver, withClock, searchOn, nextSlot, schedule}
@@ -27,8 +27,8 @@ track-requires c κs = search needs
 tracked : (c : tie.After-track) → Tracked (clockOf (c .track .result))
 unfolding receiverFrom
 tracked c =
-    let r = receiverFrom (c .before .before .args .self) (pos 0) quiet in
-    subst (λ (q : Receiver). Tracked (q .clock)) (sym (c .track .ensures (pos 0) quiet)) (tracked-near r (c .before .before .pre))
+    let r = receiverFrom (c .before .before .args .self) (pos 0) unheard in
+    subst (λ (q : Receiver). Tracked (q .clock)) (sym (c .track .ensures (pos 0) unheard)) (tracked-near r (c .before .before .pre))
 
 add-slots-requires : tie.Need-add-slots-requires
 add-slots-requires c κs = let t = tracked c in (t .reference, t .current)

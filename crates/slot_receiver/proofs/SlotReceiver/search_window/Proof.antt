@@ -10,7 +10,7 @@ use lib.Seq.{take-all}
 use Rattle.dsp_types.proofs.Laws.{slot-below}
 use Rattle.burst_finder.specs.Search.{findSync, below}
 use Rattle.dsp_types.specs.declared.ComplexSample.{ComplexSample}
-use Rattle.listener.specs.declared.window.Window.{Window}
+use Rattle.listener.specs.declared.window.Reading.{Reading}
 use Rattle.listener.specs.Signal.{Signal}
 use Rattle.listener.specs.View.{signalFrom, Reads}
 use Rattle.slot_receiver.specs.declared.SlotReceiver.{SlotReceiver}
@@ -36,7 +36,7 @@ heard c inputs = signalFrom inputs (start c .args .re .now) (start c .args .im .
 abbrev receiver : tie.After-find-sync → ℤ → List ComplexSample → Receiver
 receiver c next inputs = receiverFrom (self c) next (heard c inputs)
 
-abbrev window : tie.After-find-sync → Window
+abbrev window : tie.After-find-sync → Reading
 window c = c .before .before .before .slot-window .result
 
 window-read : (c : tie.After-find-sync) (inputs : List ComplexSample) → Reads (heard c inputs) 1024 256 (window c)

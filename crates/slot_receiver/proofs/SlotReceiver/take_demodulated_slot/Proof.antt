@@ -6,7 +6,7 @@ use native.Mathlib.Omega.{arith}
 use lib.ListN.{length, take}
 use lib.Seq.{length-take-le}
 use lib.IntN.{ℤ, pos}
-use Rattle.listener.specs.Signal.{Signal, quiet}
+use Rattle.listener.specs.Signal.{Signal, unheard}
 use Rattle.dsp_types.specs.Refusals.{wrongLength}
 use Rattle.rx_slot.specs.declared.RxBurst.{RxBurst}
 use Rattle.rx_slot.specs.Views.{BurstView, storedView, validView, burstShown, padded}
@@ -27,7 +27,7 @@ abbrev start : tie.After-take-refusal → tie.Start
 start c = c .before .before .before .before
 
 abbrev slot : tie.Start → HandedSlot
-slot s = receiverFrom (s .args .self) (pos 0) quiet .slot
+slot s = receiverFrom (s .args .self) (pos 0) unheard .slot
 
 abbrev outcome : tie.Start → ℤ → Signal → Outcome
 outcome s next signal = let a = s .args in takeOutcome (receiverFrom (a .self) next signal) (a .slot .now) (a .subslot1 .now) (a .subslot2 .now)

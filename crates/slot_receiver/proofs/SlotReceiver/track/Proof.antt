@@ -8,7 +8,7 @@ use lib.IntN.{ℤ, pos, _+ℤ_}
 use lib.Ieee.{binary32, add}
 use Rattle.dsp_types.specs.Samples.{oneF}
 use Rattle.timing.specs.Tracking.{late, early, loweredOf}
-use Rattle.listener.specs.Signal.{Signal, quiet}
+use Rattle.listener.specs.Signal.{Signal, unheard}
 use Rattle.slot_receiver.specs.declared.SlotReceiver.{SlotReceiver}
 use Rattle.slot_receiver.specs.Receiver.{Receiver, withClock, withLock}
 use Rattle.slot_receiver.specs.Bounds.{Within}
@@ -33,11 +33,11 @@ after-first c next s =
 reference-is : (c : tie.Joined1) → let d = c .before .before .args .self in
     c .if1 .d .«reference_time» .0 ≡ d .«reference_time» .0 +ℤ cond (late (d .«averaged_timing_error»)) (pos 1) (pos 0)
 unfolding receiverFrom withClock withLock
-reference-is c = ap (λ (r : Receiver). r .clock .referenceTime) (after-first c (pos 0) quiet)
+reference-is c = ap (λ (r : Receiver). r .clock .referenceTime) (after-first c (pos 0) unheard)
 
 error-is : (c : tie.Joined1) → c .if1 .d .«averaged_timing_error» ≡ loweredOf (c .before .before .args .self .«averaged_timing_error»)
 unfolding receiverFrom withClock withLock
-error-is c = ap (λ (r : Receiver). r .lock .timingError) (after-first c (pos 0) quiet)
+error-is c = ap (λ (r : Receiver). r .lock .timingError) (after-first c (pos 0) unheard)
 
 reference-within : (c : tie.Joined1) → Within (2 ^ 61) (c .if1 .d .«reference_time» .0)
 reference-within c =

@@ -67,6 +67,9 @@ loop-less c = omega (arith, counted-down (c .before .before .before .before .bef
 loop-again : tie.Need-loop-again Inv-loop μ-loop
 loop-again c = search needs
 
+rest-requires : tie.Need-rest-requires Inv-loop μ-loop
+rest-requires c κs = search needs
+
 finish-requires : tie.Need-finish-requires Inv-loop μ-loop
 finish-requires c κs = search needs
 
@@ -96,5 +99,6 @@ receive-spec =
     without-requires
     loop-less
     loop-again
+    rest-requires
     finish-requires
     returns)

@@ -54,7 +54,7 @@ returns-4 c = rw (c .before .before .match .keys4) (c .append4 .ensures)
 returns-5 : tie.Need-returns-5
 unfolding typeName ascii
 returns-5 c =
-    let t = c .before .before .before .args .kind in
+    let t = c .before .before .before .args .burst-type in
     let m = c .before .before .match .rest in
     rw (ne-eqb t 1 (m .0 .0 .0 .1), ne-eqb t 2 (m .0 .0 .1), ne-eqb t 3 (m .0 .1), ne-eqb t 4 (m .1)) (c .append5 .ensures)
 

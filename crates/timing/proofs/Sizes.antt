@@ -20,19 +20,19 @@ Size nan s a b = ⊥
 Size (inf t) s a b = ⊥
 Size (fin t m e) s a b = (t ≡ s) × (m * up e * b ≤ a * down e)
 
-pub record Within (x : Float) (s : Bool) (a b : ℕ) : Type 0 where
+pub record AtMost (x : Float) (s : Bool) (a b : ℕ) : Type 0 where
   pub over : 0 < b
   pub size : Size x s a b
 
 -- the same with either sign
 abbrev pub Bounded : Float → ℕ → ℕ → Type 0
-Bounded x a b = (s : Bool) × Within x s a b
+Bounded x a b = (s : Bool) × AtMost x s a b
 
 -- a / b is an f32: by `(refl, refl)` under `unfolding round`
 abbrev pub Holds : ℕ → ℕ → Type 0
 Holds a b = HasValue (round binary32 false a b) false a b
 
-pub weaken : {x : Float} {s : Bool} {a b : ℕ} (c d : ℕ) → 0 < d → a * d ≤ c * b → Within x s a b → Within x s c d
+pub weaken : {x : Float} {s : Bool} {a b : ℕ} (c d : ℕ) → 0 < d → a * d ≤ c * b → AtMost x s a b → AtMost x s c d
 weaken {x} {s} {a} {b} c d D h w = record { over = D; size = go x (w .size) }
   where
     go : (x : Float) → Size x s a b → Size x s c d
@@ -106,10 +106,10 @@ neg-size nan s a b w = w
 neg-size (inf t) s a b w = w
 neg-size (fin t m e) s a b w = (ap not (w .0), w .1)
 
-pub neg-within : {x : Float} {s : Bool} {a b : ℕ} → Within x s a b → Within (neg x) (not s) a b
+pub neg-within : {x : Float} {s : Bool} {a b : ℕ} → AtMost x s a b → AtMost (neg x) (not s) a b
 neg-within {x} {s} {a} {b} w = record { over = w .over; size = neg-size x s a b (w .size) }
 
-pub round-within : (s : Bool) (a c k l : ℕ) → 0 < c → 0 < l → Holds k l → a * l ≤ k * c → Within (round binary32 s a c) s k l
+pub round-within : (s : Bool) (a c k l : ℕ) → 0 < c → 0 < l → Holds k l → a * l ≤ k * c → AtMost (round binary32 s a c) s k l
 round-within false a c k l C L K h = record { over = L; size = round-size a c k l C L K h }
 round-within true a c k l C L K h =
     record {
@@ -121,7 +121,7 @@ round-within true a c k l C L K h =
 cross : (x p a y q c b d : ℕ) → x * b ≤ a * p → y * d ≤ c * q → x * y * (b * d) ≤ a * c * (p * q)
 cross x p a y q c b d h k = rw (mul-mul-mul-comm x y b d, ← mul-mul-mul-comm a p c q) (mul-le-mul h k)
 
-mul-at : (x y : Float) (s t : Bool) (a b c d : ℕ) → 0 < b * d → Holds (a * c) (b * d) → Size x s a b → Size y t c d → Within (mul binary32 x y) (unlike s t) (a * c) (b * d)
+mul-at : (x y : Float) (s t : Bool) (a b c d : ℕ) → 0 < b * d → Holds (a * c) (b * d) → Size x s a b → Size y t c d → AtMost (mul binary32 x y) (unlike s t) (a * c) (b * d)
 unfolding mul
 mul-at nan y s t a b c d B K p q = absurd p
 mul-at (inf s') y s t a b c d B K p q = absurd p
@@ -132,7 +132,7 @@ mul-at (fin s' m e) (fin t' n f) s t a b c d B K p q =
     (round-within (unlike s' t') (m * up e * (n * up f)) (down e * down f) (a * c) (b * d) (mul-pos (down-pos e) (down-pos f)) B K
     (cross (m * up e) (down e) a (n * up f) (down f) c b d (p .1) (q .1)))
 
-pub mul-within : {x y : Float} {s t : Bool} {a b c d : ℕ} → Holds (a * c) (b * d) → Within x s a b → Within y t c d → Within (mul binary32 x y) (unlike s t) (a * c) (b * d)
+pub mul-within : {x y : Float} {s t : Bool} {a b c d : ℕ} → Holds (a * c) (b * d) → AtMost x s a b → AtMost y t c d → AtMost (mul binary32 x y) (unlike s t) (a * c) (b * d)
 mul-within {x} {y} {s} {t} {a} {b} {c} {d} K p q = mul-at x y s t a b c d (mul-pos (p .over) (q .over)) K (p .size) (q .size)
 
 pub mul-bounded : {x y : Float} {a b c d : ℕ} → Holds (a * c) (b * d) → Bounded x a b → Bounded y c d → Bounded (mul binary32 x y) (a * c) (b * d)
@@ -190,7 +190,7 @@ unfolding sub
 sub-bounded K p q = add-bounded K p (not (q .0), neg-within (q .1))
 
 -- ---- the sum of two values that are not negative, a value's difference from one that it does not exceed, and the quotient of a smaller by a larger one
-add-plus-at : (x y : Float) (a b c d : ℕ) → 0 < b * d → Holds (a * d + c * b) (b * d) → Size x false a b → Size y false c d → Within (add binary32 x y) false (a * d + c * b) (b * d)
+add-plus-at : (x y : Float) (a b c d : ℕ) → 0 < b * d → Holds (a * d + c * b) (b * d) → Size x false a b → Size y false c d → AtMost (add binary32 x y) false (a * d + c * b) (b * d)
 unfolding add sum
 add-plus-at nan y a b c d B K p q = absurd p
 add-plus-at (inf s) y a b c d B K p q = absurd p
@@ -201,14 +201,14 @@ add-plus-at (fin s m e) (fin t n f) a b c d B K p q =
     (round-within false (m * up e * down f + n * up f * down e) (down e * down f) (a * d + c * b) (b * d) (mul-pos (down-pos e) (down-pos f)) B K
     (sums (m * up e) (down e) a (n * up f) (down f) c b d (p .1) (q .1)))
 
-pub add-within : {x y : Float} {a b c d : ℕ} → Holds (a * d + c * b) (b * d) → Within x false a b → Within y false c d → Within (add binary32 x y) false (a * d + c * b) (b * d)
+pub add-within : {x y : Float} {a b c d : ℕ} → Holds (a * d + c * b) (b * d) → AtMost x false a b → AtMost y false c d → AtMost (add binary32 x y) false (a * d + c * b) (b * d)
 add-within {x} {y} {a} {b} {c} {d} K p q = add-plus-at x y a b c d (mul-pos (p .over) (q .over)) K (p .size) (q .size)
 
 pub difference : (a b c : ℕ) → b ≤ a → sum binary32 false a true b c ≡ round binary32 false (a - b) c
 unfolding sum
 difference a b c h = rw (le-ltb a b h)
 
-sub-at : (x y : Float) (a b : ℕ) → 0 < b → Holds a b → HasValue x false a b → Size y false a b → Within (sub binary32 x y) false a b
+sub-at : (x y : Float) (a b : ℕ) → 0 < b → Holds a b → HasValue x false a b → Size y false a b → AtMost (sub binary32 x y) false a b
 unfolding sub add neg
 sub-at nan y a b B K p q = absurd p
 sub-at (inf s) y a b B K p q = absurd p
@@ -222,10 +222,10 @@ sub-at (fin s m e) (fin t n f) a b B K p q =
     rw (p .0, q .0, difference A C (down e * down f) low)
     (round-within false (A - C) (down e * down f) a b (mul-pos (down-pos e) (down-pos f)) B K (le-trans (mul-le-mul-right b (sub-le A C)) (le-of-eq high)))
 
-pub sub-within : (x : Float) {y : Float} {a b : ℕ} → Holds a b → HasValue x false a b → Within y false a b → Within (sub binary32 x y) false a b
+pub sub-within : (x : Float) {y : Float} {a b : ℕ} → Holds a b → HasValue x false a b → AtMost y false a b → AtMost (sub binary32 x y) false a b
 sub-within x {y} {a} {b} K v q = sub-at x y a b (q .over) K v (q .size)
 
-pub div-within : (m : ℕ) (e : ℤ) (n : ℕ) (f : ℤ) → 0 < n * up f → m * up e * down f ≤ n * up f * down e → Holds 1 1 → Within (div binary32 (fin false m e) (fin false n f)) false 1 1
+pub div-within : (m : ℕ) (e : ℤ) (n : ℕ) (f : ℤ) → 0 < n * up f → m * up e * down f ≤ n * up f * down e → Holds 1 1 → AtMost (div binary32 (fin false m e) (fin false n f)) false 1 1
 unfolding div
 div-within m e n f N h K =
     let some : eqb n 0 ≡ false = ne-eqb n 0 (λ z. none (n * up f) (rw (z, zero-mul)) N) in

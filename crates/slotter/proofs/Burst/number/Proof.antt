@@ -1,8 +1,8 @@
--- `builder::number` meets its contract, case by case.
+-- `Burst::number` meets its contract, case by case.
 use Rattle.slotter.specs.Bursts.{builderReply}
 use borrow.Author.Needs.{needs}
-use Rattle.modem.proofs.builder.number.Statement.{statement}
-use Rattle.modem.proofs.builder.number.Tie as tie
+use Rattle.slotter.proofs.Burst.number.Statement.{statement}
+use Rattle.slotter.proofs.Burst.number.Tie as tie
 
 enum-told : tie.Need-enum-told
 enum-told c = search needs
