@@ -1,11 +1,13 @@
 -- What a downlink prints and the uplink beside it, which follows it, on one axis of counters. Definitions only.
 use Prim.Native.Nat.{ℕ, zero, suc, _-_}
-use mathlib.Core.Bool.{Bool, true, false}
+use mathlib.Core.Bool.{Bool, true, false, not, _&&_, _||_}
 use mathlib.Core.List.{List, [], _∷_, _++_}
 use lib.ListN.{take, drop}
 use lib.IntN.{ℤ, pos, _+ℤ_}
 use lib.Ieee.{Float}
 use Rattle.dsp_types.specs.declared.ComplexSample.{ComplexSample}
+use Rattle.slot_receiver.specs.declared.Mode.{Mode}
+use Rattle.slot_receiver.specs.declared.Mode.the-variants.{Idle, DlUnsynchronized, Dl, Ul}
 use Rattle.slot_receiver.specs.Receiver.{Receiver}
 use Rattle.slot_receiver.specs.Calls.{followOutcome}
 use Rattle.receiver.specs.View.{receiverOf}
@@ -15,7 +17,7 @@ use Rattle.slot_text.specs.declared.Link.the-variants.{Down, Up}
 use Rattle.slot_lines.specs.declared.listen.Style.{Style}
 use Rattle.slot_lines.specs.declared.links.Links.{Links}
 use Rattle.slot_lines.specs.declared.links.LinksHeard.{LinksHeard}
-use Rattle.slot_lines.specs.Blocks.{Printed, hearOne, printed, Step, stepOf}
+use Rattle.slot_lines.specs.Blocks.{Printed, hearOne, Step, stepOf}
 
 unfoldable pub downStyle : Form → Bool → Style
 downStyle form hasBits = record { form = form; «has_bits» = hasBits; link = Down }
@@ -28,21 +30,61 @@ unfoldable pub followIf : Bool → (up down : Receiver) → Receiver
 followIf true up down = followOutcome up down .receiver
 followIf false up down = up
 
+-- ---- the first slot of a receiver that begins to follow closes by the timing that it had before, so that its bursts can be
+-- those of the next slot (docs/DIFFERENCES.md): it is not printed
+
+unfoldable pub isUplink : Mode → Bool
+isUplink Idle = false
+isUplink DlUnsynchronized = false
+isUplink Dl = false
+isUplink Ul = true
+
+-- whether the next slot is such a first one: behind an order to follow, and behind a sample that may have handed it over
+unfoldable pub beginsIf : Bool → Receiver → Bool → Bool
+beginsIf true up begins = begins || not (isUplink (up .mode))
+beginsIf false up begins = begins
+
+unfoldable pub stillBegins : Bool → Bool → Bool
+stillBegins begins slot = begins && not slot
+
+-- what is shown of what was printed
+unfoldable pub shownOf : Bool → List ℕ → List ℕ
+shownOf true lines = []
+shownOf false lines = lines
+
+-- ---- sample by sample
+
 -- samples of both with the counters c, c + 1, ..: at each counter the uplink's line comes first
-unfoldable pub bothPrinted : Form → Bool → (down up : Receiver) → (xs ys : List ComplexSample) → ℤ → List ℕ
-bothPrinted form hasBits down up [] ys c = []
-bothPrinted form hasBits down up (x ∷ xs) [] c = []
-bothPrinted form hasBits down up (x ∷ xs) (y ∷ ys) c =
+unfoldable pub bothPrinted : Form → Bool → (down up : Receiver) → (begins : Bool) → (xs ys : List ComplexSample) → ℤ → List ℕ
+bothPrinted form hasBits down up begins [] ys c = []
+bothPrinted form hasBits down up begins (x ∷ xs) [] c = []
+bothPrinted form hasBits down up begins (x ∷ xs) (y ∷ ys) c =
     let u = hearOne (upStyle form hasBits) up y c in
     let d = hearOne (downStyle form hasBits) down x c in
-    u .lines ++ (d .lines ++ bothPrinted form hasBits (d .receiver) (followIf (d .slot) (u .receiver) (d .receiver)) xs ys (c +ℤ pos 1))
+    shownOf begins (u .lines)
+    ++ (d .lines
+    ++ bothPrinted form hasBits (d .receiver) (followIf (d .slot) (u .receiver) (d .receiver)) (beginsIf (d .slot) (u .receiver) (stillBegins begins (u .slot))) xs ys (c +ℤ pos 1))
 
 -- ---- step by step: the downlink leads up to a slot, and the uplink comes after it
+
+-- the uplink's own samples: what they print, the receiver after them, and whether its first slot is still to come
+pub record UpPrinted : Type 0 where
+  pub lines : List ℕ
+  pub receiver : Receiver
+  pub begins : Bool
+
+unfoldable pub upPrinted : Style → Receiver → Bool → List ComplexSample → ℤ → UpPrinted
+upPrinted style r begins [] c = record { lines = []; receiver = r; begins = begins }
+upPrinted style r begins (x ∷ xs) c =
+    let p = hearOne style r x c in
+    let rest = upPrinted style (p .receiver) (stillBegins begins (p .slot)) xs (c +ℤ pos 1) in
+    record { lines = shownOf begins (p .lines) ++ rest .lines; receiver = rest .receiver; begins = rest .begins }
 
 -- both receivers; so many samples the uplink is behind; what the last of them printed of the downlink, which waits until then
 pub record Both : Type 0 where
   pub down : Receiver
   pub up : Receiver
+  pub begins : Bool
   pub behind : ℕ
   pub slot : Bool
   pub line : List ℕ
@@ -50,8 +92,10 @@ pub record Both : Type 0 where
 -- what is still to be printed
 unfoldable pub restPrinted : Form → Bool → Both → (xs ys : List ComplexSample) → ℤ → List ℕ
 restPrinted form hasBits b xs ys c =
-    let u = printed (upStyle form hasBits) (b .up) (take (b .behind) ys) c in
-    u .lines ++ (b .line ++ bothPrinted form hasBits (b .down) (followIf (b .slot) (u .receiver) (b .down)) (drop (b .behind) xs) (drop (b .behind) ys) (c +ℤ pos (b .behind)))
+    let u = upPrinted (upStyle form hasBits) (b .up) (b .begins) (take (b .behind) ys) c in
+    u .lines
+    ++ (b .line
+    ++ bothPrinted form hasBits (b .down) (followIf (b .slot) (u .receiver) (b .down)) (beginsIf (b .slot) (u .receiver) (u .begins)) (drop (b .behind) xs) (drop (b .behind) ys) (c +ℤ pos (b .behind)))
 
 -- how many samples both are done with, the refusal of the last that was heard, what is printed, and both after it
 pub record BothStep : Type 0 where
@@ -68,7 +112,15 @@ leadStep form hasBits b xs c =
       taken = 0;
       refusal = s .refusal;
       line = b .line;
-      both = record { down = s .heard .receiver; up = followIf (b .slot) (b .up) (b .down); behind = s .taken; slot = s .heard .slot; line = s .heard .lines };
+      both =
+          record {
+            down = s .heard .receiver;
+            up = followIf (b .slot) (b .up) (b .down);
+            begins = beginsIf (b .slot) (b .up) (b .begins);
+            behind = s .taken;
+            slot = s .heard .slot;
+            line = s .heard .lines;
+          };
     }
 
 -- the uplink comes after it
@@ -78,8 +130,8 @@ catchUpStep form hasBits b ys c =
     record {
       taken = s .taken;
       refusal = s .refusal;
-      line = s .heard .lines;
-      both = record { down = b .down; up = s .heard .receiver; behind = b .behind - s .taken; slot = b .slot; line = b .line };
+      line = shownOf (b .begins) (s .heard .lines);
+      both = record { down = b .down; up = s .heard .receiver; begins = stillBegins (b .begins) (s .heard .slot); behind = b .behind - s .taken; slot = b .slot; line = b .line };
     }
 
 unfoldable pub stepBy : ℕ → Form → Bool → Both → (xs ys : List ComplexSample) → ℤ → BothStep
@@ -92,7 +144,7 @@ bothStep form hasBits b xs ys c = stepBy (b .behind) form hasBits b xs ys c
 -- ---- as they are stored, with the rings of both pasts
 
 unfoldable pub bothOf : Links → (re im abs upRe upIm upAbs : List Float) → Both
-bothOf l re im abs upRe upIm upAbs = record { down = receiverOf (l .down) re im abs; up = receiverOf (l .up) upRe upIm upAbs; behind = l .behind; slot = l .slot; line = textOf (l .line) }
+bothOf l re im abs upRe upIm upAbs = record { down = receiverOf (l .down) re im abs; up = receiverOf (l .up) upRe upIm upAbs; begins = l .begins; behind = l .behind; slot = l .slot; line = textOf (l .line) }
 
 unfoldable pub bothMade : LinksHeard → (re im abs upRe upIm upAbs : List Float) → BothStep
 bothMade h re im abs upRe upIm upAbs = record { taken = h .taken; refusal = h .refusal; line = textOf (h .line); both = bothOf (h .links) re im abs upRe upIm upAbs }

@@ -15,11 +15,13 @@ ghost use lib.ListN.{length, take, drop};
 ghost use Rattle.text.specs.Text.{textOf};
 ghost use Rattle.receiver.specs.Feed.{interleaved};
 ghost use Rattle.receiver.specs.View.{receiverOf};
-ghost use Rattle.slot_lines.specs.Links.{followIf, restPrinted, leadStep, catchUpStep, bothStep, bothOf, bothMade};
+ghost use Rattle.slot_lines.specs.Links.{followIf, beginsIf, shownOf, restPrinted, leadStep, catchUpStep, bothStep, bothOf, bothMade};
 
 pub struct Links {
     pub down: State,
     pub up: State,
+    // Whether the uplink's next slot is the first since it began to follow, which is not printed.
+    pub begins: bool,
     // So many samples the downlink has heard and the uplink has not.
     pub behind: usize,
     // Whether the last of them handed a slot over, and its line.
@@ -55,6 +57,24 @@ fn follow_if(slot: bool, up: State, down: State) -> State
     }
 }
 
+// Whether the uplink's next slot is its first, behind an order to follow if there was one.
+fn begins_if(slot: bool, up: State, begins: bool) -> bool
+    ensures { λ r. ⌜ ((re im abs : List Float) → r ≡ beginsIf slot (receiverOf up re im abs) begins) ⌝ }
+{
+    if slot {
+        begins | (up.slots.mode != 3)
+    } else {
+        begins
+    }
+}
+
+// What is shown of a line.
+fn shown(begins: bool, line: Text) -> Text
+    ensures { λ r. ⌜ textOf r ≡ shownOf begins (textOf line) ⌝ }
+{
+    if begins { Text::new() } else { line }
+}
+
 impl Links {
     // The downlink leads: up to a slot, or to a refused sample.
     fn lead(
@@ -74,6 +94,7 @@ impl Links {
             has_bits,
             link: Link::Down,
         };
+        let begins = begins_if(self.slot, self.up, self.begins);
         let up = follow_if(self.slot, self.up, self.down);
         let line = self.line;
         let heard = hear(self.down, re, im, abs, samples, first, style);
@@ -82,6 +103,7 @@ impl Links {
         let links = Links {
             down,
             up,
+            begins,
             behind: heard.taken,
             slot: heard.slot,
             line: next,
@@ -115,9 +137,10 @@ impl Links {
         let behind = first_samples(samples, self.behind);
         let heard = hear(self.up, re, im, abs, behind, first, style);
         let up = heard.state;
-        let line = heard.line;
+        let line = shown(self.begins, heard.line);
         let mut links = self;
         links.up = up;
+        links.begins = self.begins & !heard.slot;
         links.behind = self.behind - heard.taken;
         LinksHeard {
             taken: heard.taken,
