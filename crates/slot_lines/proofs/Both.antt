@@ -1,7 +1,7 @@
 -- A step of both links prints the first of what both print, and what is left prints the rest. Assumes nothing.
 use Prim.Native.Nat.{ℕ, zero, suc, _+_, _*_, _-_, _/_, _<_, _≤_, min}
 use mathlib.Core.Path.{_≡_, refl, sym, ap, _∙_}
-use mathlib.Core.Bool.{Bool, true, false}
+use mathlib.Core.Bool.{Bool, true, false, cond}
 use mathlib.Core.List.{List, [], _∷_, _++_, append-assoc, append-nil}
 use native.Mathlib.Omega.{arith}
 use lib.IntN.{ℤ, pos, _+ℤ_}
@@ -13,12 +13,16 @@ use native.Mathlib.Nat.{min-eq-left}
 use lib.Ieee.{Float}
 use Rattle.dsp_types.specs.declared.ComplexSample.{ComplexSample}
 use Rattle.dsp_types.proofs.IntLaws.{sum, same}
+use borrow.Author.Tests.{ne-eqb, eqb-true}
+use lib.Dec.{eqb}
+use Rattle.slot_receiver.specs.declared.Mode.the-variants.{Idle, DlUnsynchronized, Dl, Ul}
 use Rattle.slot_receiver.specs.Receiver.{Receiver}
+use Rattle.slot_receiver.specs.View.{modeOf}
 use Rattle.receiver.specs.Feed.{interleaved, feedOf}
 use Rattle.slot_text.specs.declared.Form.{Form}
 use Rattle.slot_lines.specs.declared.listen.Style.{Style}
 use Rattle.slot_lines.specs.Blocks.{hearOne, Step, stretchOf, stretchBy, mendedBy, stepOf}
-use Rattle.slot_lines.specs.Links.{downStyle, upStyle, followIf, beginsIf, stillBegins, shownOf, UpPrinted, upPrinted, bothPrinted, Both, restPrinted, BothStep, leadStep, catchUpStep, stepBy, bothStep}
+use Rattle.slot_lines.specs.Links.{isUplink, downStyle, upStyle, followIf, beginsIf, stillBegins, shownOf, UpPrinted, upPrinted, bothPrinted, Both, restPrinted, BothStep, leadStep, catchUpStep, stepBy, bothStep}
 use Rattle.slot_lines.proofs.Steps.{counts, counts-none, First, on, ends, first, oneMore, step-goes, samples-count}
 
 drop-take : {A : Type 0} (t n : ℕ) (l : List A) → t ≤ n → drop t (take n l) ≡ take (n - t) (drop t l)
@@ -101,14 +105,15 @@ module _ (form : Form) (hasBits : Bool) where
   caught-up down up begins n slot line xs ys c s e h =
       let t = s .taken in
       let w : t + (n - t) ≡ n = omega arith in
-      rw
-      (e,
-      append-assoc (shownOf begins (s .heard .lines)),
-      drop-take t n ys h,
-      drop-drop (n - t) t xs,
-      drop-drop (n - t) t ys,
-      w,
-      counts-both c t n h)
+      rw (
+        e,
+        append-assoc (shownOf begins (s .heard .lines)),
+        drop-take t n ys h,
+        drop-drop (n - t) t xs,
+        drop-drop (n - t) t ys,
+        w,
+        counts-both c t n h,
+      )
 
   step-whole-both : (down up : Receiver) (begins : Bool) (n : ℕ) (slot : Bool) (line : List ℕ) (xs ys : List ComplexSample) (c : ℤ) → length xs ≡ length ys
       → let b : Both = record { down = down; up = up; begins = begins; behind = n; slot = slot; line = line } in let s = bothStep form hasBits b xs ys c in
@@ -181,3 +186,20 @@ caught-made form hasBits b ys c f e l g = rw (l, g, e, f)
 -- no more of the first n samples are done with than there are
 pub few-taken : (n : ℕ) (parts few : List Float) {t : ℕ} → interleaved few ≡ take n (interleaved parts) → t ≤ length few / 2 → t ≤ n
 few-taken n parts few e h = omega (arith, samples-count few, ap (λ (l : List ComplexSample). length l) e, length-take n (interleaved parts))
+
+-- the number that is stored for an uplink receiver's mode
+pub uplink-number : (n : ℕ) → isUplink (modeOf n) ≡ eqb n 3
+unfolding modeOf isUplink
+uplink-number n = go (eqb n 1) refl (eqb n 2) refl
+  where
+    other : (k : ℕ) → eqb n k ≡ true → (k ≡ 3 → ⊥) → false ≡ eqb n 3
+    other k e h = sym (ne-eqb n 3 (λ f. h (sym (eqb-true n k e) ∙ f)))
+
+    last : (c : Bool) → isUplink (cond c Ul Idle) ≡ c
+    last true = refl
+    last false = refl
+
+    go : (a : Bool) → eqb n 1 ≡ a → (b : Bool) → eqb n 2 ≡ b → isUplink (cond a DlUnsynchronized (cond b Dl (cond (eqb n 3) Ul Idle))) ≡ eqb n 3
+    go true e b f = other 1 e (λ p. omega arith)
+    go false e true f = other 2 f (λ p. omega arith)
+    go false e false f = last (eqb n 3)

@@ -56,6 +56,7 @@ impl Both {
         let links = Links {
             down,
             up,
+            begins: false,
             behind: 0,
             slot: false,
             line,
@@ -141,7 +142,7 @@ pub(crate) fn receive(fd: i32, up_fd: i32, options: Options) {
     while turns > 0 && both.tally.is_open && !down.is_over {
         turns -= 1;
         down = down.fill(&mut block, b"tetra_rx: the input cannot be read");
-        let was_over = up.is_over | (down.samples() == 0);
+        let was_over = up.is_over | down.is_over;
         up = up.fill(&mut up_block, b"tetra_rx: the uplink cannot be read");
         if up.is_over & !was_over {
             both.tally.tell_uplink_end();

@@ -119,7 +119,7 @@ impl Input {
         silence(parts, count - count % 2, std::num::wrapping_add_usize(n, n));
     }
 
-    // The first n samples are done with.
+    // The first n samples are done with; where there were fewer, bytes of half a sample are left.
     pub(crate) fn without(self, block: &mut Block, n: usize) -> Input {
         let mut next = self;
         let bytes = least(n, MOST) * self.sample_bytes();
@@ -127,7 +127,7 @@ impl Input {
             move_to_front(block, bytes, self.held);
             next.held = self.held - bytes;
         } else {
-            next.held = 0;
+            next.held = self.rest();
         }
         next
     }

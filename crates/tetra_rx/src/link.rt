@@ -75,9 +75,13 @@ impl Link {
         }
     }
 
+    pub(crate) fn with_slots(self, text: Text) -> Text {
+        report::with_count(text, self.slots, b" slot")
+    }
+
     // With the counts behind it.
     pub(crate) fn summary(self, text: Text) -> Text {
-        let slots = report::with_count(text, self.slots, b" slot").append(b", ");
+        let slots = self.with_slots(text).append(b", ");
         report::with_count(slots, self.refused, b" sample").append(b" refused")
     }
 }

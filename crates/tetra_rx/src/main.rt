@@ -17,6 +17,9 @@ fn refuse(wrong: u8) {
             b"--format takes cf32, cs16 or cu8",
         ),
         options::TWO_NAMES => program::refuse(b"tetra_rx", b"more than one file name"),
+        options::ONE_INPUT => {
+            program::refuse(b"tetra_rx", b"both links cannot be standard input")
+        }
         options::NO_VALUE => program::refuse(b"tetra_rx", b"the last option takes a value"),
         _ => program::refuse_option(b"tetra_rx"),
     }

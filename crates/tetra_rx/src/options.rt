@@ -23,6 +23,8 @@ pub(crate) const TWO_NAMES: u8 = 3;
 
 pub(crate) const NO_VALUE: u8 = 4;
 
+pub(crate) const ONE_INPUT: u8 = 5;
+
 pub struct Options {
     pub is_help: bool,
     pub is_version: bool,
@@ -36,6 +38,9 @@ pub struct Options {
     // The arguments that name the files of the downlink, 0 for standard input, and of the uplink, 0 for none.
     pub downlink: usize,
     pub uplink: usize,
+    // Whether they are standard input.
+    down_is_input: bool,
+    up_is_input: bool,
     // What the next word is the value of.
     value_of: u8,
 }
@@ -59,6 +64,8 @@ impl Options {
             format: 0,
             downlink: 0,
             uplink: 0,
+            down_is_input: true,
+            up_is_input: false,
             value_of: NOTHING,
         }
     }
@@ -109,13 +116,14 @@ impl Options {
         options
     }
 
-    // The argument at that place names the downlink's file.
-    fn with_name(self, at: usize) -> Options {
+    // The word, the argument at that place, names the downlink's file.
+    fn with_name(self, word: &[u8], at: usize) -> Options {
         if self.downlink > 0 {
             return self.with_wrong(TWO_NAMES);
         }
         let mut options = self;
         options.downlink = at;
+        options.down_is_input = is_word(word, b"-");
         options
     }
 
@@ -126,7 +134,7 @@ impl Options {
             Kind::Help => options.is_help = true,
             Kind::Version => options.is_version = true,
             Kind::Option => options = self.with_option(word),
-            Kind::Name => options = self.with_name(at),
+            Kind::Name => options = self.with_name(word, at),
         }
         options
     }
@@ -153,6 +161,7 @@ impl Options {
             options.with_format(word)
         } else {
             options.uplink = at;
+            options.up_is_input = is_word(word, b"-");
             options
         }
     }
@@ -187,9 +196,11 @@ pub(crate) fn read() -> Options {
         options = read.options;
         words = read.words;
     }
-    if options.value_of == NOTHING {
-        options
-    } else {
-        options.with_wrong(NO_VALUE)
+    if options.value_of != NOTHING {
+        options = options.with_wrong(NO_VALUE);
     }
+    if options.down_is_input & options.up_is_input {
+        options = options.with_wrong(ONE_INPUT);
+    }
+    options
 }

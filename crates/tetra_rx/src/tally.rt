@@ -126,20 +126,11 @@ impl Tally {
         if !self.is_progress | (self.counter < self.next) {
             return self;
         }
-        let samples = report::with_count(
-            report::begun(false, true),
-            self.counter,
-            b" sample",
-        ).append(b", ");
-        let level = self.down
-            .summary(samples)
-            .append(b", level -")
-            .decimal(iq_format::level(parts) as u64);
-        let mode = report::with_mode(level.append(b" dBFS, "), self.mode);
-        report::tell(
-            report::with_number(mode, b" since sample ", self.since),
-            b"",
-        );
+        let samples = report::with_count(report::begun(false, true), self.counter, b" sample");
+        let slots = self.down.with_slots(samples.append(b", "));
+        let level = report::with_level(slots.append(b", "), iq_format::level(parts));
+        let mode = report::with_mode(level.append(b", "), self.mode);
+        report::tell(report::with_number(mode, b" since ", self.since), b"");
         let mut next = self;
         next.next = std::num::wrapping_add_u64(self.counter, SECOND);
         next
@@ -180,12 +171,12 @@ impl Tally {
     // The bytes of half a sample are told.
     fn tell_rest(self, is_up: bool, rest: usize) {
         if rest > 0 {
-            let line = report::with_number(
+            let line = report::with_count(
                 report::begun(is_up, self.is_progress),
-                b"the last ",
                 rest as u64,
+                b" byte",
             );
-            report::tell(line, b" bytes are no whole sample\n");
+            report::tell(line, b" behind the last whole sample\n");
         }
     }
 

@@ -46,9 +46,6 @@ slice-aggregate-fill c = search needs
 fill-requires : tie.Need-fill-requires Inv-loop μ-loop
 fill-requires c κs = search needs
 
-samples-requires : tie.Need-samples-requires Inv-loop μ-loop
-samples-requires c κs = search needs
-
 slice-aggregate-fill-2 : tie.Need-slice-aggregate-fill-2 Inv-loop μ-loop
 slice-aggregate-fill-2 c = search needs
 
@@ -123,7 +120,6 @@ receive-spec =
     sub-turns
     slice-aggregate-fill
     fill-requires
-    samples-requires
     slice-aggregate-fill-2
     fill-requires-2
     tell-uplink-end-requires

@@ -1,7 +1,5 @@
 -- `options::read` is safe and ends.
-use Prim.Native.Nat.{_+_, _-_, _≤_}
-use mathlib.Core.Path.{_≡_}
-use lib.ListN.{length}
+use Prim.Native.Nat.{_-_}
 use borrow.Author.Needs.{needs}
 use Rattle.tetra_rx.proofs.options.read.Statement.{statement}
 use Rattle.tetra_rx.proofs.options.read.Tie as tie
@@ -39,6 +37,9 @@ loop-again c = search needs
 with-wrong-requires : tie.Need-with-wrong-requires Inv-loop μ-loop
 with-wrong-requires c κs = search needs
 
+with-wrong-requires-2 : tie.Need-with-wrong-requires-2 Inv-loop μ-loop
+with-wrong-requires-2 c κs = search needs
+
 returns : tie.Need-returns Inv-loop μ-loop
 returns c = search needs
 
@@ -60,5 +61,6 @@ read-spec =
     loop-less
     loop-again
     with-wrong-requires
+    with-wrong-requires-2
     returns
     returns-2)

@@ -6,10 +6,12 @@ use Rattle.tetra_rx.proofs.both.Both.hear.Statement.{statement}
 use Rattle.tetra_rx.proofs.both.Both.hear.Tie as tie
 
 abbrev Inv-loop : tie.InvT-loop
-Inv-loop re₀ im₀ abs₀ up-re₀ up-im₀ up-abs₀ parts up-parts form has-bits count start links₀ tally₀ at₀ turns₀ re im abs up-re up-im up-abs links tally at turns = Unit {0}
+Inv-loop re₀ im₀ abs₀ up-re₀ up-im₀ up-abs₀ parts up-parts form has-bits count start links₀ tally₀ at₀ turns₀ re im abs up-re up-im up-abs links tally at turns =
+    Unit {0}
 
 abbrev μ-loop : tie.MeasureT-loop
-μ-loop re₀ im₀ abs₀ up-re₀ up-im₀ up-abs₀ parts up-parts form has-bits count start links₀ tally₀ at₀ turns₀ re im abs up-re up-im up-abs links tally at turns = turns
+μ-loop re₀ im₀ abs₀ up-re₀ up-im₀ up-abs₀ parts up-parts form has-bits count start links₀ tally₀ at₀ turns₀ re im abs up-re up-im up-abs links tally at turns =
+    turns
 
 least-requires : tie.Need-least-requires Inv-loop μ-loop
 least-requires c κs = search needs

@@ -23,6 +23,9 @@ move-to-front-requires c κs = search needs
 sub-next : tie.Need-sub-next
 sub-next c = search needs
 
+rest-requires : tie.Need-rest-requires
+rest-requires c κs = search needs
+
 returns : tie.Need-returns
 returns c = search needs
 
@@ -38,5 +41,6 @@ without-spec =
     mul-bytes
     move-to-front-requires
     sub-next
+    rest-requires
     returns
     returns-2)
