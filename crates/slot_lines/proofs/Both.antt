@@ -93,7 +93,7 @@ module _ (form : Form) (hasBits : Bool) where
       → let b : Both = record { down = down; up = up; begins = begins; behind = 0; slot = slot; line = line } in let s = leadStep form hasBits b xs c in
       restPrinted form hasBits b xs ys c ≡ line ++ restPrinted form hasBits (s .both) xs ys (c +ℤ pos 0)
   unfolding leadStep restPrinted upPrinted
-  led-whole down up begins slot line xs ys c e = rw (counts-none c) (ap (λ (l : List ℕ). line ++ l) (both-led down (followIf slot up down) (beginsIf slot up begins) xs ys c e))
+  led-whole down up begins slot line xs ys c e = rw (counts-none c) (ap (λ (l : List ℕ). line ++ l) (both-led down (followIf slot up down) (beginsIf slot up c begins) xs ys c e))
 
   -- the uplink comes after it: a step of its own, which is what it prints first
   caught-up : (down up : Receiver) (begins : Bool) (n : ℕ) (slot : Bool) (line : List ℕ) (xs ys : List ComplexSample) (c : ℤ) (s : Step)
@@ -170,7 +170,7 @@ catches-up form hasBits b xs ys c e = go (b .behind) e
 
 -- what is made of a step of one link
 pub led-made : (form : Form) (hasBits : Bool) (b : Both) (xs : List ComplexSample) (c : ℤ) {s : Step} {u : Receiver} {g : Bool} → s ≡ stepOf (downStyle form hasBits) (b .down) xs c
-    → u ≡ followIf (b .slot) (b .up) (b .down) → g ≡ beginsIf (b .slot) (b .up) (b .begins)
+    → u ≡ followIf (b .slot) (b .up) (b .down) → g ≡ beginsIf (b .slot) (b .up) c (b .begins)
     → record { taken = 0; refusal = s .refusal; line = b .line; both = record { down = s .heard .receiver; up = u; begins = g; behind = s .taken; slot = s .heard .slot; line = s .heard .lines } }
     ≡ leadStep form hasBits b xs c
 unfolding leadStep

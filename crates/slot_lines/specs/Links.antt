@@ -4,7 +4,9 @@ use mathlib.Core.Bool.{Bool, true, false, not, _&&_, _||_}
 use mathlib.Core.List.{List, [], _∷_, _++_}
 use lib.ListN.{take, drop}
 use lib.IntN.{ℤ, pos, _+ℤ_}
+use lib.Signed.{ltZ}
 use lib.Ieee.{Float}
+use Rattle.dsp_types.specs.Times.{fitted}
 use Rattle.dsp_types.specs.declared.ComplexSample.{ComplexSample}
 use Rattle.slot_receiver.specs.declared.Mode.{Mode}
 use Rattle.slot_receiver.specs.declared.Mode.the-variants.{Idle, DlUnsynchronized, Dl, Ul}
@@ -30,8 +32,8 @@ unfoldable pub followIf : Bool → (up down : Receiver) → Receiver
 followIf true up down = followOutcome up down .receiver
 followIf false up down = up
 
--- ---- the first slot of a receiver that begins to follow closes by the timing that it had before, so that its bursts can be
--- those of the next slot (docs/DIFFERENCES.md): it is not printed
+-- ---- a receiver that begins to follow keeps the time of its next window where that is still to come: its first slot closes by
+-- its old timing, so that its bursts can be those of the next slot (docs/DIFFERENCES.md), and is not printed
 
 unfoldable pub isUplink : Mode → Bool
 isUplink Idle = false
@@ -39,11 +41,16 @@ isUplink DlUnsynchronized = false
 isUplink Dl = false
 isUplink Ul = true
 
--- whether the next slot is such a first one: behind an order to follow, and behind a sample that may have handed it over
-unfoldable pub beginsIf : Bool → Receiver → Bool → Bool
-beginsIf true up begins = begins || not (isUplink (up .mode))
-beginsIf false up begins = begins
+-- the time of the next window is past for a sample with the counter c, so that it is set anew
+unfoldable pub isPast : Receiver → ℤ → Bool
+isPast r c = ltZ (fitted (r .clock .slotReadyTime +ℤ pos 16)) c
 
+-- whether the next slot is such a first one: behind an order to follow, where the next sample has the counter c
+unfoldable pub beginsIf : Bool → Receiver → ℤ → Bool → Bool
+beginsIf true up c begins = begins || not (isUplink (up .mode) || isPast up c)
+beginsIf false up c begins = begins
+
+-- and behind a sample that may have handed it over
 unfoldable pub stillBegins : Bool → Bool → Bool
 stillBegins begins slot = begins && not slot
 
@@ -63,7 +70,7 @@ bothPrinted form hasBits down up begins (x ∷ xs) (y ∷ ys) c =
     let d = hearOne (downStyle form hasBits) down x c in
     shownOf begins (u .lines)
     ++ (d .lines
-    ++ bothPrinted form hasBits (d .receiver) (followIf (d .slot) (u .receiver) (d .receiver)) (beginsIf (d .slot) (u .receiver) (stillBegins begins (u .slot))) xs ys (c +ℤ pos 1))
+    ++ bothPrinted form hasBits (d .receiver) (followIf (d .slot) (u .receiver) (d .receiver)) (beginsIf (d .slot) (u .receiver) (c +ℤ pos 1) (stillBegins begins (u .slot))) xs ys (c +ℤ pos 1))
 
 -- ---- step by step: the downlink leads up to a slot, and the uplink comes after it
 
@@ -95,7 +102,7 @@ restPrinted form hasBits b xs ys c =
     let u = upPrinted (upStyle form hasBits) (b .up) (b .begins) (take (b .behind) ys) c in
     u .lines
     ++ (b .line
-    ++ bothPrinted form hasBits (b .down) (followIf (b .slot) (u .receiver) (b .down)) (beginsIf (b .slot) (u .receiver) (u .begins)) (drop (b .behind) xs) (drop (b .behind) ys) (c +ℤ pos (b .behind)))
+    ++ bothPrinted form hasBits (b .down) (followIf (b .slot) (u .receiver) (b .down)) (beginsIf (b .slot) (u .receiver) (c +ℤ pos (b .behind)) (u .begins)) (drop (b .behind) xs) (drop (b .behind) ys) (c +ℤ pos (b .behind)))
 
 -- how many samples both are done with, the refusal of the last that was heard, what is printed, and both after it
 pub record BothStep : Type 0 where
@@ -116,7 +123,7 @@ leadStep form hasBits b xs c =
           record {
             down = s .heard .receiver;
             up = followIf (b .slot) (b .up) (b .down);
-            begins = beginsIf (b .slot) (b .up) (b .begins);
+            begins = beginsIf (b .slot) (b .up) c (b .begins);
             behind = s .taken;
             slot = s .heard .slot;
             line = s .heard .lines;

@@ -20,7 +20,7 @@ ghost use Rattle.slot_lines.specs.Links.{followIf, beginsIf, shownOf, re
 pub struct Links {
     pub down: State,
     pub up: State,
-    // Whether the uplink's next slot is the first since it began to follow, which is not printed.
+    // Whether the uplink's next slot is the first since it began to follow, by its old timing: it is not printed.
     pub begins: bool,
     // So many samples the downlink has heard and the uplink has not.
     pub behind: usize,
@@ -57,12 +57,14 @@ fn follow_if(slot: bool, up: State, down: State) -> State
     }
 }
 
-// Whether the uplink's next slot is its first, behind an order to follow if there was one.
-fn begins_if(slot: bool, up: State, begins: bool) -> bool
-    ensures { λ r. ⌜ ((re im abs : List Float) → r ≡ beginsIf slot (receiverOf up re im abs) begins) ⌝ }
+// Whether the uplink's next slot is its first by its old timing, behind an order to follow if there was one. The next
+// sample has this counter.
+fn begins_if(slot: bool, up: State, counter: SampleCount, begins: bool) -> bool
+    ensures { λ r. ⌜ ((re im abs : List Float) → r ≡ beginsIf slot (receiverOf up re im abs) (counter .0) begins) ⌝ }
 {
     if slot {
-        begins | (up.slots.mode != 3)
+        let is_past = up.slots.slot_ready_time.plus(16).is_before(counter);
+        begins | !((up.slots.mode == 3) | is_past)
     } else {
         begins
     }
@@ -94,7 +96,7 @@ impl Links {
             has_bits,
             link: Link::Down,
         };
-        let begins = begins_if(self.slot, self.up, self.begins);
+        let begins = begins_if(self.slot, self.up, first, self.begins);
         let up = follow_if(self.slot, self.up, self.down);
         let line = self.line;
         let heard = hear(self.down, re, im, abs, samples, first, style);

@@ -27,6 +27,8 @@ pub struct Tally {
     pub is_open: bool,
     is_quiet: bool,
     is_progress: bool,
+    // Whether the lines stand on a terminal, where the progress line is taken away before each.
+    is_shared: bool,
     // The downlink's mode, since which sample, and whether advice was given since.
     mode: u8,
     since: u64,
@@ -41,11 +43,14 @@ pub struct Tally {
 impl Tally {
     pub(crate) fn new(options: Options) -> Tally {
         let is_terminal = libc::isatty(STDERR_FILENO) == 1;
+        let is_progress = (is_terminal | options.is_progress) & !options.is_quiet;
+        let is_shared = (libc::isatty(STDOUT_FILENO) == 1) & is_progress;
         Tally {
             counter: 0,
             is_open: true,
             is_quiet: options.is_quiet,
-            is_progress: (is_terminal | options.is_progress) & !options.is_quiet,
+            is_progress,
+            is_shared,
             mode: SEARCHING,
             since: 0,
             is_advised: false,
@@ -75,7 +80,7 @@ impl Tally {
 
     // With a slot whose line is printed.
     pub(crate) fn print(self, is_up: bool, line: Text) -> Tally {
-        if self.is_progress {
+        if self.is_shared {
             report::clear();
         }
         let mut next = self;
