@@ -85,11 +85,6 @@ impl Words {
         }
     }
 
-    // Whether there are no more words.
-    pub fn is_over(self) -> bool {
-        os::arg_count() <= self.at
-    }
-
     // The next word. One that is missing is read as an empty name.
     pub fn next(self, buf: &mut [u8]) -> Word
         ensures { λ r. ⌜ Counts (r .len) (now (buf .exit)) ⌝ }

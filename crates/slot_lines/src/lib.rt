@@ -4,6 +4,7 @@ mod listen;
 
 pub use links::Links;
 pub use links::LinksHeard;
+pub use links::first_samples;
 pub use links::hear_links;
 pub use listen::Heard;
 pub use listen::Style;

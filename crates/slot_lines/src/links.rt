@@ -38,7 +38,7 @@ pub struct LinksHeard {
 }
 
 // The first n samples, or all where there are fewer.
-fn first_samples(samples: &[f32], n: usize) -> &[f32]
+pub fn first_samples(samples: &[f32], n: usize) -> &[f32]
     ensures { λ r. ⌜ interleaved (now r) ≡ take n (interleaved (now (samples .entry))) ⌝ }
 {
     let count = least(n, samples.len() / 2);

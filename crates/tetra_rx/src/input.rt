@@ -42,15 +42,9 @@ fn move_to_front(block: &mut [u8], from: usize, to: usize) {
     }
 }
 
-// The first n samples, or all where there are fewer.
-fn front_parts(parts: &[f32], n: usize) -> &[f32] {
-    let count = least(n, parts.len() / 2);
-    &parts[..2 * count]
-}
-
-// The same of all parts, since a part of an array behind a reference cannot be lent.
+// The first n samples of all parts, since a part of an array behind a reference cannot be lent.
 pub(crate) fn first_samples(parts: &Parts, n: usize) -> &[f32] {
-    front_parts(parts, n)
+    slot_lines::first_samples(parts, n)
 }
 
 // The samples behind the first n.
