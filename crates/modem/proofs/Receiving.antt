@@ -3,8 +3,8 @@ use mathlib.Core.Path.{_≡_, refl}
 use mathlib.Core.List.{[]}
 use Prim.Native.Nat.{ℕ, zero, suc}
 use native.Mathlib.Omega.{arith}
-use Rattle.slot_receiver.specs.declared.take.TakeAnswer.{TakeAnswer}
-use Rattle.slot_receiver.specs.declared.take.TakeAnswer.the-variants as TakeAnswer
+use Rattle.slot_receiver.specs.declared.TakeAnswer.{TakeAnswer}
+use Rattle.slot_receiver.specs.declared.TakeAnswer.the-variants as TakeAnswer
 use Rattle.slot_receiver.specs.declared.Answer.{Answer}
 use Rattle.slot_receiver.specs.declared.Answer.the-variants as Answer
 use Rattle.slot_receiver.specs.Receiver.{Receiver}

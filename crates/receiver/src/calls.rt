@@ -1,6 +1,8 @@
 // The slot handed over last is taken, and a receiver follows another.
 use crate::State;
 use crate::StateAnswered;
+use slot_calls::sync_to_demodulator;
+use slot_calls::take_demodulated_slot;
 use slot_receiver::Answer;
 use slot_receiver::TakeAnswer;
 ghost use mathlib.Core.Path.{_≡_};
@@ -29,7 +31,7 @@ impl State {
         ensures lent { λ r. ⌜ ((re im abs : List Float) → now (slot .exit) ∷ now (subslot1 .exit) ∷ now (subslot2 .exit) ∷ [] ≡ takeOutcome (receiverOf self re im abs) (now (slot .entry)) (now (subslot1 .entry)) (now (subslot2 .entry)) .lent) ⌝ }
         ensures refused { λ r. ⌜ ((n : ℕ) → r .answer ≡ TakeAnswer.Refused n → r .state ≡ self) ⌝ }
     {
-        let taken = self.slots.take_demodulated_slot(slot, subslot1, subslot2);
+        let taken = take_demodulated_slot(self.slots, slot, subslot1, subslot2);
         let answer = taken.answer;
         let slots = taken.slots;
         let mut state = self;
@@ -44,7 +46,7 @@ impl State {
         ensures mode { λ r. ⌜ (r .answer ≡ Answer.Accepted → r .state .slots .mode ≡ modeFollowing (modeOf (demod .slots .mode)) (self .slots .mode)) ⌝ }
         ensures refused { λ r. ⌜ ((n : ℕ) → r .answer ≡ Answer.Refused n → r .state ≡ self) ⌝ }
     {
-        let followed = self.slots.sync_to_demodulator(demod.slots);
+        let followed = sync_to_demodulator(self.slots, demod.slots);
         let answer = followed.answer;
         let slots = followed.slots;
         let mut state = self;

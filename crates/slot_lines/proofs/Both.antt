@@ -22,7 +22,10 @@ use Rattle.receiver.specs.Feed.{interleaved, feedOf}
 use Rattle.slot_text.specs.declared.Form.{Form}
 use Rattle.slot_lines.specs.declared.listen.Style.{Style}
 use Rattle.slot_lines.specs.Blocks.{hearOne, Step, stretchOf, stretchBy, mendedBy, stepOf}
-use Rattle.slot_lines.specs.Links.{isUplink, downStyle, upStyle, followIf, beginsIf, stillBegins, shownOf, UpPrinted, upPrinted, bothPrinted, Both, restPrinted, BothStep, leadStep, catchUpStep, stepBy, bothStep}
+use Rattle.slot_lines.specs.Links.{isUplink, downStyle, upStyle, followIf, beginsIf, stillBegins, shownOf, UpPrinted, upPrinted, bothPrinted, Both, restPrinted, BothStep, leadStep, catchUpStep, stepBy, bothStep, bothOf, bothMade}
+use Rattle.slot_lines.specs.declared.links.Links.{Links}
+use Rattle.slot_lines.specs.declared.links.LinksHeard.{LinksHeard}
+use Rattle.text.specs.Text.{textOf}
 use Rattle.slot_lines.proofs.Steps.{counts, counts-none, First, on, ends, first, oneMore, step-goes, samples-count}
 
 drop-take : {A : Type 0} (t n : ℕ) (l : List A) → t ≤ n → drop t (take n l) ≡ take (n - t) (drop t l)
@@ -146,13 +149,13 @@ first-few n parts {k} e =
     (le-or-lt n (length parts / 2)))
 
 -- what is made as a step of both: what is left prints the rest
-pub both-hears : (form : Form) (hasBits : Bool) (b : Both) (xs ys : List ComplexSample) (c : ℤ) {s : BothStep} → s ≡ bothStep form hasBits b xs ys c
+both-hears : (form : Form) (hasBits : Bool) (b : Both) (xs ys : List ComplexSample) (c : ℤ) {s : BothStep} → s ≡ bothStep form hasBits b xs ys c
     → (s ≡ bothStep form hasBits b xs ys c)
     × (length xs ≡ length ys → restPrinted form hasBits b xs ys c ≡ s .line ++ restPrinted form hasBits (s .both) (drop (s .taken) xs) (drop (s .taken) ys) (c +ℤ pos (s .taken)))
 both-hears form hasBits b xs ys c e = (e, λ l. rw e (step-whole-both form hasBits (b .down) (b .up) (b .begins) (b .behind) (b .slot) (b .line) xs ys c l))
 
 -- which step it is
-pub leads : (form : Form) (hasBits : Bool) (b : Both) (xs ys : List ComplexSample) (c : ℤ) → b .behind ≡ 0 → leadStep form hasBits b xs c ≡ bothStep form hasBits b xs ys c
+leads : (form : Form) (hasBits : Bool) (b : Both) (xs ys : List ComplexSample) (c : ℤ) → b .behind ≡ 0 → leadStep form hasBits b xs c ≡ bothStep form hasBits b xs ys c
 unfolding bothStep stepBy
 leads form hasBits b xs ys c e = go (b .behind) e
   where
@@ -160,13 +163,30 @@ leads form hasBits b xs ys c e = go (b .behind) e
     go zero e = refl
     go (suc n) e = absurd (omega arith)
 
-pub catches-up : (form : Form) (hasBits : Bool) (b : Both) (xs ys : List ComplexSample) (c : ℤ) → (b .behind ≡ 0 → ⊥) → catchUpStep form hasBits b ys c ≡ bothStep form hasBits b xs ys c
+catches-up : (form : Form) (hasBits : Bool) (b : Both) (xs ys : List ComplexSample) (c : ℤ) → (b .behind ≡ 0 → ⊥) → catchUpStep form hasBits b ys c ≡ bothStep form hasBits b xs ys c
 unfolding bothStep stepBy
 catches-up form hasBits b xs ys c e = go (b .behind) e
   where
     go : (n : ℕ) → (n ≡ 0 → ⊥) → catchUpStep form hasBits b ys c ≡ stepBy n form hasBits b xs ys c
     go zero e = absurd (e refl)
     go (suc n) e = refl
+
+-- of what is stored, and made of it by a step of either link
+module _ (form : Form) (hasBits : Bool) (l : Links) (re im abs upRe upIm upAbs : List Float) (xs ys : List ComplexSample) (c : ℤ) (h : LinksHeard) (re₁ im₁ abs₁ upRe₁ upIm₁ upAbs₁ : List Float) where
+  abbrev Hears : Type 0
+  Hears =
+      (bothMade h re₁ im₁ abs₁ upRe₁ upIm₁ upAbs₁ ≡ bothStep form hasBits (bothOf l re im abs upRe upIm upAbs) xs ys c)
+      × (length xs ≡ length ys
+      → restPrinted form hasBits (bothOf l re im abs upRe upIm upAbs) xs ys c
+      ≡ textOf (h .line) ++ restPrinted form hasBits (bothOf (h .links) re₁ im₁ abs₁ upRe₁ upIm₁ upAbs₁) (drop (h .taken) xs) (drop (h .taken) ys) (c +ℤ pos (h .taken)))
+
+  pub lead-hears : l .behind ≡ 0 → bothMade h re₁ im₁ abs₁ upRe₁ upIm₁ upAbs₁ ≡ leadStep form hasBits (bothOf l re im abs upRe upIm upAbs) xs c → Hears
+  unfolding bothOf bothMade
+  lead-hears z e = both-hears form hasBits (bothOf l re im abs upRe upIm upAbs) xs ys c (e ∙ leads form hasBits (bothOf l re im abs upRe upIm upAbs) xs ys c z)
+
+  pub catch-up-hears : (l .behind ≡ 0 → ⊥) → bothMade h re₁ im₁ abs₁ upRe₁ upIm₁ upAbs₁ ≡ catchUpStep form hasBits (bothOf l re im abs upRe upIm upAbs) ys c → Hears
+  unfolding bothOf bothMade
+  catch-up-hears z e = both-hears form hasBits (bothOf l re im abs upRe upIm upAbs) xs ys c (e ∙ catches-up form hasBits (bothOf l re im abs upRe upIm upAbs) xs ys c z)
 
 -- what is made of a step of one link
 pub led-made : (form : Form) (hasBits : Bool) (b : Both) (xs : List ComplexSample) (c : ℤ) {s : Step} {u : Receiver} {g : Bool} → s ≡ stepOf (downStyle form hasBits) (b .down) xs c

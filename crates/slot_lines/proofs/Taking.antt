@@ -14,8 +14,8 @@ use Rattle.burst_finder.specs.Slots.{getBurst}
 use Rattle.rx_slot.specs.declared.RxBurst.{RxBurst}
 use Rattle.rx_slot.specs.declared.RxSlot.{RxSlot}
 use Rattle.receiver.specs.declared.State.{State}
-use Rattle.slot_receiver.specs.declared.take.TakeAnswer.{TakeAnswer}
-use Rattle.slot_receiver.specs.declared.take.TakeAnswer.the-variants as TakeAnswer
+use Rattle.slot_receiver.specs.declared.TakeAnswer.{TakeAnswer}
+use Rattle.slot_receiver.specs.declared.TakeAnswer.the-variants as TakeAnswer
 use Rattle.rx_slot.specs.Views.{BurstView, noView, isFound, validView, storedView, padded, burstShown}
 use Rattle.rx_slot.proofs.Laws.{padded-front}
 use Rattle.rx_slot.specs.Slots.{HandedSlot, withViews, validSlot, filled, shown}

@@ -10,8 +10,8 @@ use Rattle.rx_slot.specs.declared.RxSlot.{RxSlot}
 use Rattle.rx_slot.specs.Slots.{HandedSlot, validSlot, shown, filled}
 use Rattle.slot_receiver.specs.declared.Answer.{Answer}
 use Rattle.slot_receiver.specs.declared.Answer.the-variants.{Accepted, Refused}
-use Rattle.slot_receiver.specs.declared.take.TakeAnswer.{TakeAnswer}
-use Rattle.slot_receiver.specs.declared.take.TakeAnswer.the-variants as TakeAnswer
+use Rattle.slot_receiver.specs.declared.TakeAnswer.{TakeAnswer}
+use Rattle.slot_receiver.specs.declared.TakeAnswer.the-variants as TakeAnswer
 use Rattle.slot_receiver.specs.declared.Mode.{Mode}
 use Rattle.slot_receiver.specs.declared.Mode.the-variants.{Idle, DlUnsynchronized, Dl, Ul}
 use Rattle.slot_receiver.specs.Receiver.{Receiver, withMode, withClock, withWaits, validCount, accept}

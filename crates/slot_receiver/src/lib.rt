@@ -1,21 +1,16 @@
-// The receiver between its samples (demodulator.rs): which slot is current, when its window closes, what a window hands over, and the
-// calls on what was handed over. What was heard is lent by the caller.
+// The receiver between its samples (demodulator.rs): which slot is current, when its window closes and what it hands over. What
+// was heard is lent by the caller; slot_calls has the calls on what was handed over.
 mod arrive;
 mod clock;
-mod follow;
 mod new;
 mod quiet;
-mod take;
 mod valid;
 mod window;
 
 pub use arrive::Arrived;
 use dsp_types::SampleCount;
 use dsp_types::TdmaTime;
-pub use follow::Followed;
 use rx_slot::RxSlot;
-pub use take::TakeAnswer;
-pub use take::Taken;
 pub use valid::valid_count;
 
 pub enum Mode {
@@ -31,6 +26,11 @@ pub enum Mode {
 
 pub enum Answer {
     Accepted,
+    Refused(u32),
+}
+
+pub enum TakeAnswer {
+    Slot(RxSlot),
     Refused(u32),
 }
 

@@ -1,29 +1,29 @@
--- `SlotReceiver::sync_to_demodulator` meets its contract, by the test of its own mode.
+-- `follow::sync_to_demodulator` meets its contract, by the test of its own mode.
 use mathlib.Core.Path.{_≡_, refl, sym, ap, _∙_}
 use mathlib.Core.List.{[]}
 use Prim.Native.Nat.{ℕ}
 use native.Mathlib.Omega.{arith}
 use lib.IntN.{ℤ}
 use Rattle.listener.specs.Signal.{Signal}
 use Rattle.slot_receiver.specs.Receiver.{Receiver}
 use Rattle.slot_receiver.specs.Calls.{Outcome, followed, followOutcome, replyOf}
 use Rattle.slot_receiver.specs.View.{receiverFrom}
 use Rattle.slot_receiver.proofs.Outcomes.{kept, unless-refused, unless-accepted}
-use Rattle.slot_receiver.proofs.Taking.{follow-refused, follow-accepted}
+use Rattle.slot_calls.proofs.Taking.{follow-refused, follow-accepted}
 use borrow.Author.Needs.{needs}
-use Rattle.slot_receiver.proofs.SlotReceiver.sync_to_demodulator.Statement.{statement}
-use Rattle.slot_receiver.proofs.SlotReceiver.sync_to_demodulator.Tie as tie
+use Rattle.slot_calls.proofs.follow.sync_to_demodulator.Statement.{statement}
+use Rattle.slot_calls.proofs.follow.sync_to_demodulator.Tie as tie
 
 -- what a refused order comes to, and an accepted one
 refused : (c : tie.Then1) (next : ℤ) (s : Signal) (other : Receiver) → let a = c .before .args in
-    followOutcome (receiverFrom (a .self) next s) other ≡ kept 13 (receiverFrom (a .self) next s) []
+    followOutcome (receiverFrom (a .slots) next s) other ≡ kept 13 (receiverFrom (a .slots) next s) []
 unfolding followOutcome receiverFrom
-refused c next s other = unless-refused _ _ _ (follow-refused (c .before .args .self .mode) (c .if1 .taken)) (λ e. omega (arith, e))
+refused c next s other = unless-refused _ _ _ (follow-refused (c .before .args .slots .mode) (c .if1 .taken)) (λ e. omega (arith, e))
 
 accepted : (c : tie.Else1) (next : ℤ) (s : Signal) (other : Receiver) → let a = c .before .args in
-    followOutcome (receiverFrom (a .self) next s) other ≡ followed (receiverFrom (a .self) next s) other
+    followOutcome (receiverFrom (a .slots) next s) other ≡ followed (receiverFrom (a .slots) next s) other
 unfolding followOutcome receiverFrom
-accepted c next s other = unless-accepted _ _ _ (sym (follow-accepted (c .before .args .self .mode) (c .if1 .left)))
+accepted c next s other = unless-accepted _ _ _ (sym (follow-accepted (c .before .args .slots .mode) (c .if1 .left)))
 
 returns : tie.Need-returns
 unfolding replyOf

@@ -1,4 +1,4 @@
--- `SlotReceiver::take_demodulated_slot` meets its contract: a refusal changes nothing, and three views fill the slices.
+-- `take::take_demodulated_slot` meets its contract: a refusal changes nothing, and three views fill the slices.
 use mathlib.Core.Path.{_≡_, refl, sym, ap, _∙_}
 use mathlib.Core.List.{List, [], _∷_}
 use Prim.Native.Nat.{ℕ, _≤_}
@@ -12,49 +12,49 @@ use Rattle.rx_slot.specs.declared.RxBurst.{RxBurst}
 use Rattle.rx_slot.specs.Views.{BurstView, storedView, validView, burstShown, padded}
 use Rattle.rx_slot.specs.Slots.{HandedSlot, validSlot}
 use Rattle.rx_slot.proofs.Laws.{stored-front, slot-told, slot-filled}
-use Rattle.slot_receiver.specs.declared.take.TakeAnswer.the-variants as TakeAnswer
+use Rattle.slot_receiver.specs.declared.TakeAnswer.the-variants as TakeAnswer
 use Rattle.slot_receiver.specs.Receiver.{withWaits}
 use Rattle.slot_receiver.specs.Calls.{Outcome, took, takeRefusal, taken, takeOutcome, takeReplyOf, inNumbers}
 use Rattle.slot_receiver.specs.View.{receiverFrom}
-use Rattle.slot_receiver.proofs.Taking.{right-lengths}
+use Rattle.slot_calls.proofs.Taking.{right-lengths}
 use Rattle.slot_receiver.proofs.Outcomes.{kept, unless-refused, unless-accepted}
 use borrow.Author.Needs.{needs}
-use Rattle.slot_receiver.proofs.SlotReceiver.take_demodulated_slot.Statement.{statement}
-use Rattle.slot_receiver.proofs.SlotReceiver.take_demodulated_slot.Tie as tie
+use Rattle.slot_calls.proofs.take.take_demodulated_slot.Statement.{statement}
+use Rattle.slot_calls.proofs.take.take_demodulated_slot.Tie as tie
 
 -- the slices and the state at entry
 abbrev start : tie.After-take-refusal → tie.Start
 start c = c .before .before .before .before
 
 abbrev slot : tie.Start → HandedSlot
-slot s = receiverFrom (s .args .self) (pos 0) unheard .slot
+slot s = receiverFrom (s .args .slots) (pos 0) unheard .slot
 
 abbrev outcome : tie.Start → ℤ → Signal → Outcome
-outcome s next signal = let a = s .args in takeOutcome (receiverFrom (a .self) next signal) (a .slot .now) (a .subslot1 .now) (a .subslot2 .now)
+outcome s next signal = let a = s .args in takeOutcome (receiverFrom (a .slots) next signal) (a .slot .now) (a .subslot1 .now) (a .subslot2 .now)
 
 refusal : (c : tie.After-take-refusal)
-    → let a = start c .args in c .take-refusal .result ≡ takeRefusal (a .slot .now) (a .subslot1 .now) (a .subslot2 .now) (a .self .«demodulated_slot_available»)
+    → let a = start c .args in c .take-refusal .result ≡ takeRefusal (a .slot .now) (a .subslot1 .now) (a .subslot2 .now) (a .slots .«demodulated_slot_available»)
 unfolding takeRefusal wrongLength
 refusal c = c .take-refusal .ensures
 
 -- what a refused take comes to, and an answered one
 refused : (c : tie.Then1) (next : ℤ) (signal : Signal) → let s = start (c .before) in let a = s .args in
-    outcome s next signal ≡ kept (c .before .take-refusal .result) (receiverFrom (a .self) next signal) (a .slot .now ∷ a .subslot1 .now ∷ a .subslot2 .now ∷ [])
+    outcome s next signal ≡ kept (c .before .take-refusal .result) (receiverFrom (a .slots) next signal) (a .slot .now ∷ a .subslot1 .now ∷ a .subslot2 .now ∷ [])
 unfolding takeOutcome receiverFrom
 refused c next signal = unless-refused _ _ _ (refusal (c .before)) (c .if1 .taken)
 
 answered : (c : tie.Else1) (next : ℤ) (signal : Signal) → let s = start (c .before) in
-    outcome s next signal ≡ taken (receiverFrom (s .args .self) next signal) (validSlot (slot s))
+    outcome s next signal ≡ taken (receiverFrom (s .args .slots) next signal) (validSlot (slot s))
 unfolding takeOutcome receiverFrom
 answered c next signal = unless-accepted _ _ _ (sym (refusal (c .before)) ∙ c .if1 .left)
 
 lengths : (c : tie.Else1) → let a = start (c .before) .args in (length (a .slot .now) ≡ 510) × (length (a .subslot1 .now) ≡ 254) × (length (a .subslot2 .now) ≡ 254)
 lengths c =
     let a = start (c .before) .args in
-    right-lengths (a .slot .now) (a .subslot1 .now) (a .subslot2 .now) (a .self .«demodulated_slot_available») (sym (refusal (c .before)) ∙ c .if1 .left)
+    right-lengths (a .slot .now) (a .subslot1 .now) (a .subslot2 .now) (a .slots .«demodulated_slot_available») (sym (refusal (c .before)) ∙ c .if1 .left)
 
 -- the stored bits are 510
-stored : (c : tie.Start) → (length (c .args .self .«full_bits») ≡ 510) × (length (c .args .self .«subslot1_bits») ≡ 510) × (length (c .args .self .«subslot2_bits») ≡ 510)
+stored : (c : tie.Start) → (length (c .args .slots .«full_bits») ≡ 510) × (length (c .args .slots .«subslot1_bits») ≡ 510) × (length (c .args .slots .«subslot2_bits») ≡ 510)
 stored c = (search needs, search needs, search needs)
 
 -- a view of so many bits is one of the stored bits' front
@@ -105,7 +105,7 @@ array-share-prefix-bits1 c =
 slice-aggregate-take-burst-2 : tie.Need-slice-aggregate-take-burst-2
 slice-aggregate-take-burst-2 c =
     let a = entry (c .before .before .before) in
-    sym (length-take-le 254 (a .args .self .«subslot1_bits») (omega (arith, stored a .1)))
+    sym (length-take-le 254 (a .args .slots .«subslot1_bits») (omega (arith, stored a .1)))
 
 take-burst-requires-2 : tie.Need-take-burst-requires-2
 take-burst-requires-2 c κs = search needs
@@ -118,7 +118,7 @@ array-share-prefix-bits2 c =
 slice-aggregate-take-burst-3 : tie.Need-slice-aggregate-take-burst-3
 slice-aggregate-take-burst-3 c =
     let a = entry (first (c .before .before .before)) in
-    sym (length-take-le 254 (a .args .self .«subslot2_bits») (omega (arith, stored a .2)))
+    sym (length-take-le 254 (a .args .slots .«subslot2_bits») (omega (arith, stored a .2)))
 
 take-burst-requires-3 : tie.Need-take-burst-requires-3
 take-burst-requires-3 c κs = search needs
@@ -143,7 +143,7 @@ returns-2 c =
     let v = first v1 in
     let k = chosen v in
     let s = entry v in
-    let d = s .args .self in
+    let d = s .args .slots in
     let b = d .«demodulated_slot» in
     let l = lengths k in
     let n = stored s in

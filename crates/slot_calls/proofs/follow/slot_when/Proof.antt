@@ -1,8 +1,8 @@
 -- `follow::slot_when` meets its contract, mode by mode.
 use Rattle.slot_receiver.specs.Calls.{slotWhen}
 use Rattle.slot_receiver.proofs.Views.{mode-idle, mode-search, mode-downlink, mode-uplink}
-use Rattle.slot_receiver.proofs.follow.slot_when.Statement.{statement}
-use Rattle.slot_receiver.proofs.follow.slot_when.Tie as tie
+use Rattle.slot_calls.proofs.follow.slot_when.Statement.{statement}
+use Rattle.slot_calls.proofs.follow.slot_when.Tie as tie
 
 returns : tie.Need-returns
 unfolding slotWhen

@@ -1,6 +1,6 @@
 -- `take::take_refusal` meets its contract: the tests in the order of the numbers.
-use Rattle.slot_receiver.proofs.take.take_refusal.Statement.{statement}
-use Rattle.slot_receiver.proofs.take.take_refusal.Tie as tie
+use Rattle.slot_calls.proofs.take.take_refusal.Statement.{statement}
+use Rattle.slot_calls.proofs.take.take_refusal.Tie as tie
 
 returns : tie.Need-returns
 returns c = rw (c .if1 .taken)
