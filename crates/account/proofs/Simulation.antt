@@ -1,7 +1,7 @@
 -- One accepted sample: the receiver does what the account does. The invariant has three states: searching, just locked (the slot's
 -- ready time lies in the past until the next sample skips a slot), and locked.
 use mathlib.Core.Path.{_≡_, refl, ap, sym, _∙_}
-use mathlib.Core.Bool.{Bool, true, false, cond}
+use mathlib.Core.Bool.{Bool, true, false}
 use mathlib.Core.List.{List, [], _∷_, _++_}
 use Prim.Native.Nat.{ℕ, zero, suc, _+_, _*_, _%_, _≤_, _<_}
 use native.Mathlib.Omega.{arith}
@@ -9,9 +9,8 @@ use native.Mathlib.Nat.{mod-eq-of-lt}
 use lib.IntN.{ℤ, pos, negsuc, _+ℤ_, _-ℤ_, +ℤ-idr}
 use mathlib.Core.Logic.{inl, inr}
 use lib.Dec.{ltb, leb, eqb}
-use lib.Ieee.{Float, binary32, sub}
+use lib.Ieee.{Float}
 use borrow.Author.Tests.{eqb-true, eqb-false, ne-eqb, lt-ltb, le-ltb, leb-true, leb-false}
-use Rattle.dsp_types.specs.Samples.{oneF}
 use Rattle.dsp_types.specs.Refusals.{counters}
 use Rattle.dsp_types.specs.declared.ComplexSample.{ComplexSample}
 use Rattle.dsp_types.specs.Ints.{up, dn, eqZ}

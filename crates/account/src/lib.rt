@@ -11,7 +11,6 @@ use slot_receiver::Mode;
 use write::ROW;
 use write::write_bytes;
 use write::write_numbers;
-ghost use Prim.Native.Nat.{min};
 ghost use mathlib.Core.Path.{_≡_};
 ghost use lib.ListN.{length};
 ghost use Rattle.demodulator.specs.View.{viewOf};

@@ -1,14 +1,15 @@
--- Laws of slot numbers and of the tests that several calls share. Assumes nothing.
+-- Laws of slot numbers, and of the tests and lists that several crates share. Assumes nothing.
 use mathlib.Core.Path.{_≡_, refl, sym, subst}
 use mathlib.Core.Bool.{Bool, true, false, not, _&&_, _||_, true≢false}
-use mathlib.Core.List.{List}
-use Prim.Native.Nat.{ℕ, _<_}
+use mathlib.Core.List.{List, [], _∷_}
+use Prim.Native.Nat.{ℕ, zero, suc, _-_, _<_, _≤_}
 use native.Mathlib.Nat.{mod-lt}
 use native.Mathlib.Omega.{arith}
 use lib.Dec.{T, eqb, lit<}
 use lib.IntN.{ℤ, pos, negsuc}
 use lib.Ieee.{Float, nan, inf, fin, ne, isNan}
-use lib.ListN.{length}
+use lib.ListN.{length, take, drop}
+use lib.Seq.{take-nil}
 use lib.Signed.{ltZ}
 use borrow.Author.Tests.{eqb-true, le-ltb, not-false}
 use Rattle.dsp_types.specs.Refusals.{lastCounter, outOfCount, wrongLength}
@@ -44,3 +45,11 @@ unfolding ne isNan
 not-nan nan e = subst T e tt
 not-nan (inf s) e = tt
 not-nan (fin s m e′) e = tt
+
+pub drop-take : {A : Type 0} (t n : ℕ) (l : List A) → t ≤ n → drop t (take n l) ≡ take (n - t) (drop t l)
+drop-take zero n l h = let w : n - 0 ≡ n = omega arith in rw w
+drop-take (suc t) zero l h = absurd (omega arith)
+drop-take (suc t) (suc n) [] h = sym (take-nil (suc n - suc t))
+drop-take (suc t) (suc n) (x ∷ l) h =
+    let w : suc n - suc t ≡ n - t = omega arith in
+    rw w (drop-take t n l (omega arith))

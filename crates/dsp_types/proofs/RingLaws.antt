@@ -8,9 +8,8 @@ use native.Mathlib.Omega.{arith}
 use mathlib.Core.List.{List, _∷_}
 use lib.ListN.{length, getD, set, take, replicate, getD-replicate}
 use lib.Seq.{getD-set-same, getD-set-other}
-use lib.Ieee.{Float, nan}
-use Rattle.dsp_types.specs.declared.ComplexSample.{ComplexSample}
-use Rattle.dsp_types.specs.Samples.{ago, zeroF, silence}
+use lib.Ieee.{nan}
+use Rattle.dsp_types.specs.Samples.{zeroF, silence}
 use Rattle.dsp_types.specs.Ring.{placeOf, ringAt, ringSample, newest}
 
 -- ---- what the laws speak of

@@ -2,7 +2,7 @@
 use mathlib.Core.Path.{_≡_, refl, sym, ap, subst, _∙_}
 use mathlib.Core.Bool.{true}
 use lib.Dec.{T}
-use lib.IntN.{ℤ, pos, negsuc, _-ℤ_}
+use lib.IntN.{ℤ, negsuc, _-ℤ_}
 use mir.Syntax.{w16}
 use mir.Val.{SFits, toZ, ofZ}
 use mir.ValLaws.{toZ-ofZ, toZ-pos}
@@ -17,6 +17,7 @@ use lib.Ieee.{Float, nan, inf, fin, binary32, isNan, ne, ofBits, toBits}
 use lib.Ieee.Bits.{nanBits-is, nanBits-above}
 use lib.Ieee.Compare.{differs-from-itself}
 use borrow.Author.Tests.{lt-ltb, le-ltb}
+use Rattle.dsp_types.proofs.Signs.{minus}
 use Rattle.iq_format.specs.declared.Format.{Format}
 use Rattle.iq_format.specs.declared.Format.the-variants.{Cf32, Cs16, Cu8}
 use Rattle.iq_format.specs.Parts.{wordOf, width, signed16, partOf, firstParts, partsIn, wordBytes, partBytes}
@@ -42,10 +43,6 @@ nan-float p h = only-nan (ofBits binary32 p) (sym (nanBits-is binary32 p) ∙ na
 pub signed-above : (w : ℕ) → w < 0x8000 → toZ w16 w ≡ signed16 w
 unfolding signed16
 signed-above w h = toZ-pos w16 w h ∙ rw (lt-ltb w 0x8000 h)
-
-minus : (k : ℕ) → negsuc 0 -ℤ pos k ≡ negsuc k
-minus zero = refl
-minus (suc k) = ap negsuc (omega arith)
 
 -- the sign bit is set: the other bits are turned round
 module _ (w : ℕ) (l : 0x8000 ≤ w) (h : w < 0x1_0000) where

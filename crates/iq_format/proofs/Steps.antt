@@ -14,7 +14,6 @@ use lib.Ieee.Bits.{is-true, is-false}
 use lib.Ieee.Fits.{and-l, and-r}
 use lib.Ieee.Compare.{differs-from-itself}
 use borrow.Author.Tests.{lt-ltb, le-ltb, ltb-true, ltb-false}
-use Rattle.magnitude.specs.Magnitude.{units}
 use Rattle.magnitude.specs.Pattern.{sizeOf, patternUnits}
 use Rattle.magnitude.proofs.Values.{pattern-mono}
 use Rattle.magnitude.proofs.Parts.{units-size, size-lt}

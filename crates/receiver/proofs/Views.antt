@@ -9,7 +9,7 @@ use Rattle.slot_receiver.specs.declared.Answer.{Answer}
 use Rattle.slot_receiver.specs.declared.Answer.the-variants as Answer
 use Rattle.slot_receiver.specs.Receiver.{Receiver}
 use Rattle.slot_receiver.specs.Calls.{Outcome, sampled, sampleOutcome, replyOf}
-use Rattle.slot_receiver.proofs.Outcomes.{kept, sample-refused, sample-accepted}
+use Rattle.slot_receiver.proofs.Outcomes.{sample-refused, sample-accepted}
 use Rattle.receiver.specs.Hearing.{Judges}
 use mathlib.Core.List.{List}
 use lib.Ieee.{Float}

@@ -13,6 +13,7 @@ use native.Mathlib.Nat.{min-eq-left}
 use lib.Ieee.{Float}
 use Rattle.dsp_types.specs.declared.ComplexSample.{ComplexSample}
 use Rattle.dsp_types.proofs.IntLaws.{sum, same}
+use Rattle.dsp_types.proofs.Laws.{drop-take}
 use borrow.Author.Tests.{ne-eqb, eqb-true}
 use lib.Dec.{eqb}
 use Rattle.slot_receiver.specs.declared.Mode.the-variants.{Idle, DlUnsynchronized, Dl, Ul}
@@ -26,15 +27,7 @@ use Rattle.slot_lines.specs.Links.{isUplink, downStyle, upStyle, followI
 use Rattle.slot_lines.specs.declared.links.Links.{Links}
 use Rattle.slot_lines.specs.declared.links.LinksHeard.{LinksHeard}
 use Rattle.text.specs.Text.{textOf}
-use Rattle.slot_lines.proofs.Steps.{counts, counts-none, First, on, ends, first, oneMore, step-goes, samples-count}
-
-drop-take : {A : Type 0} (t n : ℕ) (l : List A) → t ≤ n → drop t (take n l) ≡ take (n - t) (drop t l)
-drop-take zero n l h = let w : n - 0 ≡ n = omega arith in rw w
-drop-take (suc t) zero l h = absurd (omega arith)
-drop-take (suc t) (suc n) [] h = sym (take-nil (suc n - suc t))
-drop-take (suc t) (suc n) (x ∷ l) h =
-    let w : suc n - suc t ≡ n - t = omega arith in
-    rw w (drop-take t n l (omega arith))
+use Rattle.slot_lines.proofs.Steps.{counts, counts-none, First, on, ends, first, step-goes, samples-count}
 
 counts-both : (c : ℤ) (t n : ℕ) → t ≤ n → (c +ℤ pos t) +ℤ pos (n - t) ≡ c +ℤ pos n
 counts-both c t n h = same ((c +ℤ pos t) +ℤ pos (n - t)) (c +ℤ pos n) (omega (arith, sum (c +ℤ pos t) (pos (n - t)), sum c (pos t), sum c (pos n)))

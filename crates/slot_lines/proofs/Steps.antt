@@ -9,7 +9,7 @@ use native.Mathlib.Numerals.{add-one}
 use borrow.Author.Tests.{lt-ltb}
 use native.Mathlib.Omega.{arith}
 use lib.IntN.{ℤ, pos, negsuc, _+ℤ_}
-use lib.ListN.{length, drop}
+use lib.ListN.{length}
 use lib.Signed.{ltZ}
 use lib.Ieee.{Float}
 use Rattle.dsp_types.specs.declared.ComplexSample.{ComplexSample}
@@ -22,7 +22,7 @@ use Rattle.receiver.specs.declared.feed.Stop.{Stop}
 use Rattle.receiver.specs.declared.feed.Stop.the-variants.{End, Slot, Refused}
 use Rattle.slot_receiver.specs.Receiver.{Receiver, accept, validCount}
 use Rattle.slot_receiver.specs.Windows.{handsOver, acceptWindows}
-use Rattle.slot_receiver.specs.Calls.{refused, done, Outcome, unless, sampleRefusal, sampled, sampleOutcome}
+use Rattle.slot_receiver.specs.Calls.{refused, Outcome, unless, sampleRefusal, sampled, sampleOutcome}
 use Rattle.receiver.specs.Feed.{interleaved, Block, fedOne, fedBy, feedOf}
 use Rattle.slot_lines.specs.declared.listen.Style.{Style}
 use Rattle.slot_lines.specs.Blocks.{takeNext, takenIf, takenLine, mended, Printed, printedOne, hearOne, before, printed, Step, stretchBy, stretchOf, mendedBy, stepOf, fromStep}

@@ -19,7 +19,7 @@ use Rattle.slot_text.specs.declared.Link.the-variants.{Down, Up}
 use Rattle.slot_lines.specs.declared.listen.Style.{Style}
 use Rattle.slot_lines.specs.declared.links.Links.{Links}
 use Rattle.slot_lines.specs.declared.links.LinksHeard.{LinksHeard}
-use Rattle.slot_lines.specs.Blocks.{Printed, hearOne, Step, stepOf}
+use Rattle.slot_lines.specs.Blocks.{hearOne, stepOf}
 
 unfoldable pub downStyle : Form → Bool → Style
 downStyle form hasBits = record { form = form; «has_bits» = hasBits; link = Down }

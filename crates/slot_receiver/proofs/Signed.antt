@@ -16,7 +16,7 @@ use mir.ValLaws.{toZ-ofZ}
 use Rattle.dsp_types.specs.Ints.{up, dn, eqZ}
 use Rattle.dsp_types.proofs.IntLaws.{sum, less, up-neg, dn-neg}
 use Rattle.dsp_types.proofs.Fitting.{fitted-fits}
-use Rattle.dsp_types.specs.Times.{fitted, divEuclid, divisor, slots}
+use Rattle.dsp_types.specs.Times.{fitted, divEuclid, divisor}
 use Rattle.slot_receiver.specs.Bounds.{Within, Counter}
 
 -- a number that is p − n, both within 2^62

@@ -1,6 +1,6 @@
 -- The receiver's times stay within their bounds as a window closes: a find sets the reference time by the ready time, tracking moves it
 -- by one sample, and the ready time is at most all slots behind it. Assumes nothing.
-use mathlib.Core.Path.{_≡_, refl}
+use mathlib.Core.Path.{_≡_}
 use mathlib.Core.Bool.{Bool, true, false}
 use mathlib.Core.Logic.{inl, inr}
 use Prim.Native.Nat.{ℕ, suc, _+_, _-_, _*_, _/_, _≤_, _<_, _^_}

@@ -1,6 +1,6 @@
 -- The pieces of a line, one behind the other, are its fields. Assumes nothing.
 use Prim.Native.Nat.{ℕ}
-use mathlib.Core.Path.{_≡_, refl, ap, _∙_}
+use mathlib.Core.Path.{_≡_, refl, ap}
 use mathlib.Core.List.{List, [], _∷_, _++_, append-assoc, append-nil}
 use Rattle.text.specs.Text.{ascii, decimal}
 use Rattle.slot_text.specs.declared.Form.{Form}

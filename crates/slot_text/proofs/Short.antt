@@ -6,7 +6,7 @@ use mathlib.Core.List.{List, [], _∷_, _++_, map}
 use native.Mathlib.Omega.{arith}
 use lib.Dec.{eqb}
 use lib.ListN.{length, length-append, length-map}
-use Rattle.text.specs.Text.{ascii, cut, decimal, characterOf, typeName}
+use Rattle.text.specs.Text.{ascii, cut, characterOf, typeName}
 use Rattle.text.proofs.Decimal.{length-decimal}
 use Rattle.text.proofs.Cutting.{short}
 use Rattle.text.proofs.Names.{length-name}

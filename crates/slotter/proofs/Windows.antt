@@ -1,23 +1,15 @@
 -- The two windows of a burst: where they stand in its bits, and that each has an odd number of symbols and so an odd sum.
-use mathlib.Core.Path.{_≡_, sym, ap, _∙_}
-use mathlib.Core.List.{List, [], _∷_}
-use Prim.Native.Nat.{ℕ, zero, suc, _+_, _-_, _*_, _%_, _≤_}
-use native.Mathlib.Nat.{sub-zero}
+use mathlib.Core.Path.{_≡_, sym, _∙_}
+use mathlib.Core.List.{List}
+use Prim.Native.Nat.{ℕ, _+_, _-_, _*_, _%_, _≤_}
 use native.Mathlib.Omega.{arith}
 use lib.ListN.{length, take, drop, length-drop}
-use lib.Seq.{take-take, take-nil, drop-drop, length-take-le}
+use lib.Seq.{take-take, drop-drop, length-take-le}
 use Rattle.dsp_types.specs.Phases.{modulo8}
+use Rattle.dsp_types.proofs.Laws.{drop-take}
 use Rattle.slotter.specs.Phases.{phaseSum}
 use Rattle.slotter.specs.Bursts.{firstWindow, lastWindow}
 use Rattle.slotter.proofs.Adjustment.{sum-parity}
-
-drop-take : (n m : ℕ) (l : List ℕ) → n ≤ m → drop n (take m l) ≡ take (m - n) (drop n l)
-drop-take zero m l h = ap (λ (k : ℕ). take k l) (sym (sub-zero m))
-drop-take (suc n) zero l h = absurd (omega arith)
-drop-take (suc n) (suc m) [] h = sym (take-nil (suc m - suc n))
-drop-take (suc n) (suc m) (x ∷ l) h =
-    let e : m - n ≡ suc m - suc n = omega arith in
-    drop-take n m l (omega arith) ∙ ap (λ (k : ℕ). take k (drop n l)) e
 
 -- ---- as parts of the burst's bits
 

@@ -1,7 +1,6 @@
 -- `Demodulator::sync_to_demodulator` meets its contract: the state's, with the past beside it.
 use mathlib.Core.Path.{ap}
 use Rattle.receiver.specs.declared.State.{State}
-use Rattle.demodulator.specs.declared.Demodulator.{Demodulator}
 use Rattle.demodulator.specs.View.{viewOf}
 use borrow.Author.Needs.{needs}
 use Rattle.demodulator.proofs.Demodulator.sync_to_demodulator.Statement.{statement}

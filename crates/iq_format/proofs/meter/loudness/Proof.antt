@@ -1,7 +1,6 @@
 -- `iq_format::meter::loudness` meets its contract: what differs from itself is NaN, and nothing else is.
 use Rattle.dsp_types.proofs.Laws.{not-nan}
 use Rattle.iq_format.proofs.Steps.{nan-loudness, number-loudness}
-use borrow.Author.Needs.{needs}
 use Rattle.iq_format.proofs.meter.loudness.Statement.{statement}
 use Rattle.iq_format.proofs.meter.loudness.Tie as tie
 

@@ -1,5 +1,5 @@
 -- `state::tetra_state_sample` meets its contract, by `State::sample`.
-use mathlib.Core.Path.{_≡_, sym, ap, _∙_}
+use mathlib.Core.Path.{ap, _∙_}
 use lib.IntN.{ℤ}
 use mir.Syntax.{w64}
 use mir.ValLaws.{toZ-ofZ}

@@ -1,5 +1,5 @@
 -- `State::accept` meets its contract: the zeros, then the sample.
-use mathlib.Core.Path.{_≡_, ap, sym, _∙_}
+use mathlib.Core.Path.{ap, sym, _∙_}
 use mathlib.Core.Bool.{Bool, _||_}
 use Prim.Native.Nat.{_^_}
 use lib.Dec.{lit≤}

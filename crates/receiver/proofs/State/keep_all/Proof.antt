@@ -1,6 +1,5 @@
 -- `State::keep_all` meets its contract: the listener hears them all.
 use mathlib.Core.Path.{ap}
-use Rattle.listener.specs.Signal.{Signal}
 use Rattle.slot_receiver.specs.Receiver.{withNext, withSignal}
 use Rattle.slot_receiver.specs.View.{receiverFrom}
 use Rattle.receiver.specs.Keep.{keepAll}

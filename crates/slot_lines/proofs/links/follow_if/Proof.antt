@@ -1,5 +1,4 @@
 -- `links::follow_if` meets its contract.
-use mathlib.Core.Path.{refl}
 use Rattle.slot_lines.specs.Links.{followIf}
 use borrow.Author.Needs.{needs}
 use Rattle.slot_lines.proofs.links.follow_if.Statement.{statement}

@@ -5,11 +5,10 @@ use native.Mathlib.Omega.{arith}
 use lib.IntN.{ℤ, pos, _+ℤ_}
 use lib.ListN.{length}
 use mir.Syntax.{w64}
-use mir.Val.{toZ}
 use mir.ValLaws.{toZ-pos}
 use Rattle.dsp_types.specs.Times.{fitted}
 use Rattle.receiver.specs.Feed.{interleaved}
-use Rattle.slot_lines.specs.Blocks.{Step, stepMade}
+use Rattle.slot_lines.specs.Blocks.{stepMade}
 use Rattle.slot_lines.proofs.Steps.{not-mended, is-mended, row-within, hears}
 use borrow.Author.Needs.{needs}
 use Rattle.slot_lines.proofs.listen.hear.Statement.{statement}

@@ -11,7 +11,7 @@ use Rattle.burst_finder.specs.Slots.{checkSlot}
 use Rattle.dsp_types.specs.declared.ComplexSample.{ComplexSample}
 use Rattle.listener.specs.Signal.{Signal}
 use Rattle.listener.specs.View.{signalFrom}
-use Rattle.rx_slot.specs.Views.{BurstView, checked, viewOn, storedBurst, storedView}
+use Rattle.rx_slot.specs.Views.{BurstView, checked, storedView}
 use Rattle.rx_slot.proofs.Laws.{stored-finding}
 use Rattle.slot_receiver.specs.declared.SlotReceiver.{SlotReceiver}
 use Rattle.slot_receiver.specs.declared.Mode.{Mode}

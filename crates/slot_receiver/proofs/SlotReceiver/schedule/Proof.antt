@@ -7,7 +7,7 @@ use Rattle.listener.specs.Signal.{unheard}
 use Rattle.slot_receiver.specs.declared.Mode.{Mode}
 use Rattle.slot_receiver.specs.declared.Mode.the-variants.{Idle, DlUnsynchronized, Dl, Ul}
 use Rattle.slot_receiver.specs.Receiver.{Receiver, withClock, searchOn, nextSlot, schedule}
-use Rattle.slot_receiver.specs.View.{modeOf, clockOf, receiverFrom}
+use Rattle.slot_receiver.specs.View.{clockOf, receiverFrom}
 use Rattle.slot_receiver.proofs.Signed.{plus-is, wider, within-pos}
 use Rattle.slot_receiver.proofs.Times.{Tracked, tracked-near}
 use Rattle.slot_receiver.proofs.Views.{mode-idle, mode-search, mode-downlink, mode-uplink, searched-on}

@@ -1,13 +1,12 @@
 -- `SlotReceiver::skipped` meets its contract.
-use mathlib.Core.Path.{_≡_, ap, _∙_}
+use mathlib.Core.Path.{ap, _∙_}
 use Prim.Native.Nat.{_^_}
 use lib.Dec.{lit≤}
-use lib.IntN.{ℤ, pos, _-ℤ_}
+use lib.IntN.{ℤ}
 use Rattle.slot_receiver.specs.Receiver.{tdiff, far, skipIf, skipped}
 use Rattle.slot_receiver.specs.View.{receiverFrom}
 use Rattle.slot_receiver.proofs.Signed.{read, wider, counter-37}
 use Rattle.slot_receiver.proofs.Times.{tdiff-within}
-use borrow.Author.Needs.{needs}
 use Rattle.slot_receiver.proofs.SlotReceiver.skipped.Statement.{statement}
 use Rattle.slot_receiver.proofs.SlotReceiver.skipped.Tie as tie
 

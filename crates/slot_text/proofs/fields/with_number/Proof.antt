@@ -1,8 +1,8 @@
 -- `fields::with_number` meets its contract: a name, and the digits behind it.
-use mathlib.Core.Path.{_≡_, ap, _∙_}
-use mathlib.Core.List.{List, [], _∷_, _++_}
+use mathlib.Core.Path.{ap, _∙_}
+use mathlib.Core.List.{List, _++_}
 use Prim.Native.Nat.{ℕ}
-use Rattle.text.specs.Text.{textOf, cut, ascii}
+use Rattle.text.specs.Text.{textOf, cut}
 use Rattle.text.proofs.Cutting.{onto}
 use Rattle.slot_text.proofs.Pieces.{number-piece}
 use borrow.Author.Needs.{needs}

@@ -1,7 +1,6 @@
 -- `line::slot_line` meets its contract: a piece behind the other.
 use mathlib.Core.Path.{_≡_, ap, _∙_}
-use mathlib.Core.List.{List, [], _∷_, _++_}
-use Prim.Native.Nat.{ℕ}
+use mathlib.Core.List.{[], _++_}
 use Rattle.text.specs.Text.{textOf, cut, ascii}
 use Rattle.text.proofs.Cutting.{onto}
 use Rattle.slot_text.proofs.Pieces.{whole-line}

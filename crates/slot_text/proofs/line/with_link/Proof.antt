@@ -1,7 +1,5 @@
 -- `line::with_link` meets its contract: by the link.
-use mathlib.Core.Path.{_≡_, ap, _∙_}
-use mathlib.Core.List.{append-nil}
-use Rattle.text.specs.Text.{textOf, cut, ascii}
+use Rattle.text.specs.Text.{ascii}
 use Rattle.slot_text.specs.Fields.{fieldsText}
 use Rattle.slot_text.specs.Lines.{linkFields}
 use borrow.Author.Needs.{needs}
