@@ -85,6 +85,7 @@ pub fn due_at(count: u64, start: u64, has_bits: bool, bits: &[u8]) -> Due
         return Due::Silence;
     }
     let i = (place / 4 * 2) as usize;
+    // One test for both bits, at each symbol of a slot; `bit` is for a slice that ends before them.
     if i + 1 < bits.len() {
         return Due::Symbol(bits[i] != 0, bits[i + 1] != 0);
     }
