@@ -3,6 +3,7 @@ pub mod Turns
 pub mod Parts
 pub mod Steps
 pub mod Best
+pub mod Exact
 pub mod Lock
 pub mod Downlink
 pub mod Findings

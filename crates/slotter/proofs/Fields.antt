@@ -77,17 +77,24 @@ frame z {w₁} {w₂} {w₃} {w₄} a b c d n la lb lc ld e₁ e₂ e₃ e₄ =
     let f₃ : Filled z (a ++ b ++ take 484 (drop 14 z) ++ c) w₃ 500 = next {at = 498} c (skip 484 f₂ (omega arith)) e₃ (omega arith) in
     full (next {at = 500} d f₃ e₄ refl) (omega arith)
 
--- five fields from 14 on
-pub five : (z : List ℕ) {w₁ w₂ w₃ w₄ w₅ : List ℕ} {p₁ p₂ p₃ p₄ : ℕ} (a b c d e : List ℕ) → length z ≡ 510 → length a + length b + length c + length d + length e ≡ 484
-    → w₁ ≡ paste z 14 a (length a) → p₁ ≡ 14 + length a
-    → w₂ ≡ paste w₁ p₁ b (length b) → p₂ ≡ p₁ + length b
-    → w₃ ≡ paste w₂ p₂ c (length c) → p₃ ≡ p₂ + length c
-    → w₄ ≡ paste w₃ p₃ d (length d) → p₄ ≡ p₃ + length d
-    → w₅ ≡ paste w₄ p₄ e (length e)
-    → take 484 (drop 14 w₅) ≡ a ++ b ++ c ++ d ++ e
-five z a b c d e n l e₁ q₁ e₂ q₂ e₃ q₃ e₄ q₄ e₅ =
-    let f = next e (next d (next c (next b (next a (start z 14 (omega arith)) e₁ (sym q₁)) e₂ (sym q₂)) e₃ (sym q₃)) e₄ (sym q₄)) e₅ refl in
-    behind (take 14 z) (a ++ b ++ c ++ d ++ e) 14 484 f (simp append-assoc) (length-take-le 14 z (omega arith)) (simp length-append (omega arith))
+-- five fields from a place on
+module _ (z : List ℕ) {w₁ w₂ w₃ w₄ w₅ : List ℕ} {p₁ p₂ p₃ p₄ : ℕ} (at : ℕ) (a b c d e : List ℕ)
+    (e₁ : w₁ ≡ paste z at a (length a)) (q₁ : p₁ ≡ at + length a)
+    (e₂ : w₂ ≡ paste w₁ p₁ b (length b)) (q₂ : p₂ ≡ p₁ + length b)
+    (e₃ : w₃ ≡ paste w₂ p₂ c (length c)) (q₃ : p₃ ≡ p₂ + length c)
+    (e₄ : w₄ ≡ paste w₃ p₃ d (length d)) (q₄ : p₄ ≡ p₃ + length d)
+    (e₅ : w₅ ≡ paste w₄ p₄ e (length e)) where
+  chain : at ≤ length z → Filled z (take at z ++ a ++ b ++ c ++ d ++ e) w₅ (p₄ + length e)
+  chain h = next e (next d (next c (next b (next a (start z at h) e₁ (sym q₁)) e₂ (sym q₂)) e₃ (sym q₃)) e₄ (sym q₄)) e₅ refl
+
+  -- .. of which what stands before them is left away
+  pub five : at ≡ 14 → length z ≡ 510 → length a + length b + length c + length d + length e ≡ 484 → take 484 (drop 14 w₅) ≡ a ++ b ++ c ++ d ++ e
+  five s n l =
+      behind (take at z) (a ++ b ++ c ++ d ++ e) 14 484 (chain (omega arith)) (simp append-assoc) (length-take-le at z (omega arith) ∙ s) (simp length-append (omega arith))
+
+  -- .. which are all there is
+  pub all-five : at ≡ 0 → length z ≡ length a + length b + length c + length d + length e → w₅ ≡ a ++ b ++ c ++ d ++ e
+  all-five s n = rw s at (full (chain (omega arith)) (omega arith))
 
 -- ---- the middle block of a normal burst, cut in two
 

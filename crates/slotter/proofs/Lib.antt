@@ -3,6 +3,7 @@ mod Phase
 mod Folding
 pub mod Windows
 mod Fields
-mod Refusal
+pub mod Refusal
+pub mod Placing
 pub mod Answers
 pub mod Places

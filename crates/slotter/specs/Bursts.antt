@@ -1,6 +1,6 @@
 -- The downlink bursts and what their builders answer (01, "Refusals" and "Burst bits"; EN 300 392-2, clauses 9.4.4.2.5 and 9.4.4.2.6). Definitions only.
 use Prim.Native.Nat.{ℕ, zero, suc, _-_, _*_}
-use mathlib.Core.Bool.{cond, _||_}
+use mathlib.Core.Bool.{Bool, cond, _||_}
 use mathlib.Core.List.{List, [], _∷_, _++_}
 use lib.IntN.{ℤ}
 use lib.Dec.{eqb}
@@ -55,12 +55,14 @@ downlink last fields =
 
 -- ---- what the builders answer
 
--- the refusal of three blocks of n, 30 and 216 bits: 3, 4, else `otherwise`
+-- 3 where a block has another length, 4 where a byte of one is no bit, else `otherwise`
+unfoldable pub lengthOrBit : (lengths bits : Bool) → ℕ → ℕ
+lengthOrBit lengths bits otherwise = cond lengths badLength (cond bits badBit otherwise)
+
+-- the refusal of three blocks of n, 30 and 216 bits
 unfoldable pub blockRefusal : ℕ → List ℕ → List ℕ → List ℕ → ℕ → ℕ
 blockRefusal n blk1 bbk blk2 otherwise =
-    cond (wrongLength n blk1 || wrongLength 30 bbk || wrongLength 216 blk2) badLength
-    (cond (notBits blk1 || notBits bbk || notBits blk2) badBit
-    otherwise)
+    lengthOrBit (wrongLength n blk1 || wrongLength 30 bbk || wrongLength 216 blk2) (notBits blk1 || notBits bbk || notBits blk2) otherwise
 
 -- 5 for a training sequence other than 1 or 2
 unfoldable pub trainingRefusal : ℕ → ℕ

@@ -1,3 +1,4 @@
 pub mod Phases
 pub mod Bursts
+pub mod Uplink
 pub mod Places

@@ -1,4 +1,5 @@
-// Downlink bursts: the builders of slotter.rs, with the phase adjustment bits that EN 300 392-2 has.
+// Downlink bursts: the builders of slotter.rs, with the phase adjustment bits that EN 300 392-2 has. Uplink bursts: uplink.rt.
+mod uplink;
 
 use dsp_types::ACCEPTED;
 use dsp_types::BAD_BIT;
@@ -10,6 +11,12 @@ use train_consts::SEQ_NORM1;
 use train_consts::SEQ_NORM2;
 use train_consts::SEQ_NORM3;
 use train_consts::SEQ_SYNC;
+pub use uplink::ControlUplinkBurst;
+pub use uplink::NormalUplinkBurst;
+pub use uplink::UplinkAnswer;
+pub use uplink::build_cub;
+pub use uplink::build_nub;
+pub use uplink::place;
 ghost use mathlib.Core.Path.{_≡_};
 ghost use Prim.Native.Nat.{_+_, _*_, _%_, _≤_};
 ghost use mathlib.Core.List.{_++_};
@@ -19,7 +26,7 @@ ghost use Rattle.dsp_types.specs.Refusals.{wrongLength};
 ghost use Rattle.train_consts.specs.Training.{normal3};
 ghost use Rattle.dsp_types.specs.Phases.{phaseOf, modulo8};
 ghost use Rattle.slotter.specs.Phases.{phaseSum, adjustment};
-ghost use Rattle.slotter.specs.Bursts.{trainingOf, blockRefusal, trainingRefusal, builderReply, refusal, burstUnless, syncBurst, normalBurst};
+ghost use Rattle.slotter.specs.Bursts.{trainingOf, lengthOrBit, blockRefusal, trainingRefusal, builderReply, refusal, burstUnless, syncBurst, normalBurst};
 
 // How a builder answers. The bits stand beside it, since an enum holds no array.
 pub enum Answer {
@@ -58,10 +65,10 @@ fn refused(number: u32) -> Burst
     }
 }
 
-// Writes a field into the burst, from place `at` on, and gives the place behind it.
-fn put(bits: &mut [u8; 510], at: usize, field: &[u8]) -> usize
-    requires { ⌜ (length (now bits) ≡ 510) × (at + length (now field) ≤ 510) ⌝ }
-    ensures { λ r. ⌜ (r ≡ at + length (now (field .entry))) × (length (now (bits .exit)) ≡ 510) × (now (bits .exit) ≡ paste (now (bits .entry)) at (now (field .entry)) (length (now (field .entry)))) ⌝ }
+// Writes a field into a burst, from place `at` on, and gives the place behind it.
+fn put(bits: &mut [u8], at: usize, field: &[u8]) -> usize
+    requires { ⌜ at + length (now field) ≤ length (now bits) ⌝ }
+    ensures { λ r. ⌜ (r ≡ at + length (now (field .entry))) × (length (now (bits .exit)) ≡ length (now (bits .entry))) × (now (bits .exit) ≡ paste (now (bits .entry)) at (now (field .entry)) (length (now (field .entry)))) ⌝ }
 {
     for i in 0..field.len() {
         bits[at + i] = field[i];
@@ -133,19 +140,23 @@ fn wrong_length(n: usize, block: &[u8]) -> bool
     block.len() != n
 }
 
-// The refusal of three blocks of n, 30 and 216 bits: 3, 4, else `otherwise`.
+// 3 where a block has another length, 4 where a byte of one is no bit, else `otherwise`.
+fn length_or_bit(lengths: bool, bits: bool, otherwise: u32) -> u32
+    ensures { λ r. ⌜ r ≡ lengthOrBit lengths bits otherwise ⌝ }
+{
+    if lengths {
+        return BAD_LENGTH;
+    }
+    if bits { BAD_BIT } else { otherwise }
+}
+
+// The refusal of three blocks of n, 30 and 216 bits.
 fn block_refusal(n: usize, blk1: &[u8], bbk: &[u8], blk2: &[u8], otherwise: u32) -> u32
     ensures { λ r. ⌜ r ≡ blockRefusal n (now (blk1 .entry)) (now (bbk .entry)) (now (blk2 .entry)) otherwise ⌝ }
 {
     let lengths = wrong_length(n, blk1) | wrong_length(30, bbk) | wrong_length(216, blk2);
     let bits = not_bits(blk1) | not_bits(bbk) | not_bits(blk2);
-    if lengths {
-        return BAD_LENGTH;
-    }
-    if bits {
-        return BAD_BIT;
-    }
-    otherwise
+    length_or_bit(lengths, bits, otherwise)
 }
 
 // 5 for a training sequence other than 1 or 2, else 0.

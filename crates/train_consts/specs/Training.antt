@@ -1,4 +1,4 @@
--- The training sequences and the frequency correction field (EN 300 392-2, 9.4.4.3.1 to 9.4.4.3.4), first bit first. The Rust (train_consts.rs,
+-- The training sequences, the frequency correction field and the tail bits (EN 300 392-2, 9.4.4.3.1 to 9.4.4.3.5), first bit first. The Rust (train_consts.rs,
 -- slotter.rs) has the same bits. Definitions only.
 use Prim.Native.Nat.{ℕ}
 use mathlib.Core.List.{List, [], _∷_}
@@ -36,3 +36,7 @@ unfoldable pub synchronization : List ℕ
 synchronization =
     1 ∷ 1 ∷ 0 ∷ 0 ∷ 0 ∷ 0 ∷ 0 ∷ 1 ∷ 1 ∷ 0 ∷ 0 ∷ 1 ∷ 1 ∷ 1 ∷ 0 ∷ 0 ∷ 1 ∷ 1 ∷ 1
     ∷ 0 ∷ 1 ∷ 0 ∷ 0 ∷ 1 ∷ 1 ∷ 1 ∷ 0 ∷ 0 ∷ 0 ∷ 0 ∷ 0 ∷ 1 ∷ 1 ∷ 0 ∷ 0 ∷ 1 ∷ 1 ∷ 1 ∷ []
+
+-- clause 9.4.4.3.5, tail bits
+unfoldable pub tail : List ℕ
+tail = 1 ∷ 1 ∷ 0 ∷ 0 ∷ []

@@ -1,4 +1,5 @@
-// The training sequences, and the frequency correction field of a downlink burst (train_consts.rs, slotter.rs; EN 300 392-2, 9.4.4.3).
+// The training sequences, the frequency correction field of a downlink burst and the tail bits of an uplink one (train_consts.rs, slotter.rs; EN 300 392-2,
+// 9.4.4.3).
 
 // Normal training sequence 1, 22 n-bits (9.4.4.3.2).
 pub const SEQ_NORM1: [u8; 22] = [
@@ -237,3 +238,6 @@ pub const SEQ_EXT: [u8; 30] = [
     1,
     1,
 ];
+
+// Tail bits (9.4.4.3.5).
+pub const T_BITS: [u8; 4] = [1, 1, 0, 0];

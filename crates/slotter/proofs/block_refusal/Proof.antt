@@ -1,18 +1,19 @@
--- `slotter::block_refusal` meets its contract: its two tests are the definition's, in the same order.
-use mathlib.Core.Path.{_≡_, sym, _∙_}
+-- `slotter::block_refusal` meets its contract: what is tested is the definition's.
+use mathlib.Core.Path.{_≡_, _∙_}
 use mathlib.Core.Bool.{_||_}
 use borrow.Author.Needs.{needs}
-use Rattle.slotter.proofs.Refusal.{lengths, bits, refused-length, refused-bit, passed}
+use Rattle.dsp_types.specs.Refusals.{wrongLength, notBits}
+use Rattle.slotter.specs.Bursts.{blockRefusal}
 use Rattle.slotter.proofs.block_refusal.Statement.{statement}
 use Rattle.slotter.proofs.block_refusal.Tie as tie
 
 -- what the two tests read
 lengths-are : (c : tie.After-wrong-length3) → let a = c .before .before .before .before .before .before .args in
-    (c .before .before .wrong-length .result || c .before .wrong-length2 .result || c .wrong-length3 .result) ≡ lengths (a .n) (a .blk1 .now) (a .bbk .now) (a .blk2 .now)
+    (c .before .before .wrong-length .result || c .before .wrong-length2 .result || c .wrong-length3 .result) ≡ (wrongLength (a .n) (a .blk1 .now) || wrongLength 30 (a .bbk .now) || wrongLength 216 (a .blk2 .now))
 lengths-are c = rw (c .before .before .wrong-length .ensures, c .before .wrong-length2 .ensures, c .wrong-length3 .ensures)
 
 bits-are : (c : tie.After-not-bits3) → let a = c .before .before .before .before .before .before .before .before .before .args in
-    (c .before .before .not-bits .result || c .before .not-bits2 .result || c .not-bits3 .result) ≡ bits (a .blk1 .now) (a .bbk .now) (a .blk2 .now)
+    (c .before .before .not-bits .result || c .before .not-bits2 .result || c .not-bits3 .result) ≡ (notBits (a .blk1 .now) || notBits (a .bbk .now) || notBits (a .blk2 .now))
 bits-are c = rw (c .before .before .not-bits .ensures, c .before .not-bits2 .ensures, c .not-bits3 .ensures)
 
 wrong-length-requires : tie.Need-wrong-length-requires
@@ -33,18 +34,14 @@ not-bits-requires-2 c κs = search needs
 not-bits-requires-3 : tie.Need-not-bits-requires-3
 not-bits-requires-3 c κs = search needs
 
+length-or-bit-requires : tie.Need-length-or-bit-requires
+length-or-bit-requires c κs = search needs
+
 returns : tie.Need-returns
-returns c = refused-length _ _ _ _ _ (sym (lengths-are (c .before .before .before .before)) ∙ c .if1 .taken)
-
-returns-2 : tie.Need-returns-2
-returns-2 c =
-    let t = c .before .before in
-    refused-bit _ _ _ _ _ (sym (lengths-are (t .before .before .before)) ∙ c .before .if1 .left) (sym (bits-are t) ∙ c .if2 .taken)
-
-returns-3 : tie.Need-returns-3
-returns-3 c =
-    let t = c .before .before in
-    passed _ _ _ _ _ (sym (lengths-are (t .before .before .before)) ∙ c .before .if1 .left) (sym (bits-are t) ∙ c .if2 .left)
+unfolding blockRefusal
+returns c =
+    let t = c .before in
+    c .length-or-bit .ensures ∙ rw (lengths-are (t .before .before .before), bits-are t)
 
 pub block-refusal-spec : {M : Type 1} → statement M
 block-refusal-spec =
@@ -56,6 +53,5 @@ block-refusal-spec =
     not-bits-requires
     not-bits-requires-2
     not-bits-requires-3
-    returns
-    returns-2
-    returns-3)
+    length-or-bit-requires
+    returns)

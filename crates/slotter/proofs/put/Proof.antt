@@ -11,13 +11,13 @@ use Rattle.slotter.proofs.put.Statement.{statement}
 use Rattle.slotter.proofs.put.Tie as tie
 
 abbrev Inv-loop : tie.InvT-loop
-Inv-loop bits₀ at field i₀ i-end bits i = (i ≤ length field) × (i-end ≡ length field) × (bits ≡ paste bits₀ at field i)
+Inv-loop bits₀ at field i₀ i-end bits i = (i ≤ length field) × (i-end ≡ length field) × (length bits ≡ length bits₀) × (bits ≡ paste bits₀ at field i)
 
 abbrev μ-loop : tie.MeasureT-loop
 μ-loop bits₀ at field i₀ i-end bits i = length field - i
 
 loop-holds : tie.Need-loop-holds Inv-loop μ-loop
-loop-holds c = (search needs, search needs, paste-zero (c .args .bits .now) (c .args .at) (c .args .field .now))
+loop-holds c = (search needs, search needs, search needs, paste-zero (c .args .bits .now) (c .args .at) (c .args .field .now))
 
 shared-slice-read-bits : tie.Need-shared-slice-read-bits Inv-loop μ-loop
 shared-slice-read-bits c = search needs
@@ -25,8 +25,8 @@ shared-slice-read-bits c = search needs
 add-bits : tie.Need-add-bits Inv-loop μ-loop
 add-bits c = search needs
 
-element-write-bits : tie.Need-element-write-bits Inv-loop μ-loop
-element-write-bits c = search needs
+slice-write-bits : tie.Need-slice-write-bits Inv-loop μ-loop
+slice-write-bits c = search needs
 
 add-i : tie.Need-add-i Inv-loop μ-loop
 add-i c = search needs
@@ -40,19 +40,23 @@ loop-again c =
     let l = c .before .before .loop in (
       search needs,
       search needs,
-      rw (l .inv .2, add-one (l .i))
+      search needs,
+      rw (l .inv .3, add-one (l .i))
           (paste-suc (a .bits .now) (a .at) (a .field .now) (l .i) 0 (omega arith) (omega arith)),
     )
 
 add-result : tie.Need-add-result Inv-loop μ-loop
 add-result c = search needs
 
+same-length : tie.Need-same-length Inv-loop μ-loop
+same-length c = search needs
+
 returns : tie.Need-returns Inv-loop μ-loop
 returns c =
     let a = c .before .before .args in
     let e : c .before .loop .i ≡ length (a .field .now) = omega arith in
-    let p = c .before .loop .inv .2 ∙ ap (paste (a .bits .now) (a .at) (a .field .now)) e in
-    (search needs, put-length (a .bits .now) (a .field .now) (a .at) p (omega arith) ∙ c .before .before .pre .0, p)
+    let p = c .before .loop .inv .3 ∙ ap (paste (a .bits .now) (a .at) (a .field .now)) e in
+    (search needs, put-length (a .bits .now) (a .field .now) (a .at) p (omega arith), p)
 
 pub put-spec : {M : Type 1} → statement M
 put-spec =
@@ -63,9 +67,10 @@ put-spec =
     loop-holds
     shared-slice-read-bits
     add-bits
-    element-write-bits
+    slice-write-bits
     add-i
     loop-less
     loop-again
     add-result
+    same-length
     returns)
