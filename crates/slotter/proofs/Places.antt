@@ -7,17 +7,18 @@ use lib.Dec.{lit≤}
 use lib.ListN.{length, take, drop, length-append, take-append-drop, length-drop}
 use lib.Seq.{slice, take-at, drop-at, length-take-le}
 use Rattle.dsp_types.specs.Refusals.{accepted}
-use Rattle.train_consts.specs.Training.{normal3, synchronization, frequencyCorrection}
+use Rattle.train_consts.specs.Training.{normal3, extended, synchronization, frequencyCorrection, tail}
 use Rattle.dsp_types.specs.Phases.{modulo8}
 use Rattle.slotter.specs.Phases.{phaseSum, adjustment}
 use Rattle.slotter.specs.Bursts.{firstWindow, lastWindow, downlink, syncFields, normalFields, trainingOf, trainingRefusal, syncBurst, normalBurst}
-use Rattle.slotter.specs.Places.{symbols, Adjusts, SyncPlaces, NormalPlaces}
+use Rattle.slotter.specs.Uplink.{uplink, normalUplink, controlUplink, uplinkNumber, uplinkBits}
+use Rattle.slotter.specs.Places.{symbols, Adjusts, SyncPlaces, NormalPlaces, NormalUplinkPlaces, ControlUplinkPlaces}
 use Rattle.slotter.proofs.Adjustment.{adjustment-cancels, adjustment-only}
 use Rattle.slotter.proofs.Windows.{first-odd, last-odd}
 use Rattle.slotter.proofs.Folding.{adjustment-length}
 use Rattle.slotter.proofs.Fields.{training-length}
-use Rattle.slotter.proofs.Refusal.{right-lengths}
-use Rattle.slotter.proofs.Answers.{burst-number, burst-bits}
+use Rattle.slotter.proofs.Refusal.{right-lengths, right-pair}
+use Rattle.slotter.proofs.Answers.{burst-number, burst-bits, uplink-number, uplink-bits}
 
 -- the law of a place: a field stands where what is before it ends
 pub at-place : (f e : ℕ) (l p s t : List ℕ) → l ≡ p ++ s ++ t → length p ≡ f → f + length s ≡ e → slice f e l ≡ s
@@ -56,13 +57,13 @@ module _ (last : ℕ) (fields : List ℕ) (n : length fields ≡ 484) (low : 7 �
   unfolding downlink
   long = simp length-append (omega (arith, lengths))
 
-  head : slice 0 12 (downlink last fields) ≡ Q₁
+  first-q : slice 0 12 (downlink last fields) ≡ Q₁
   unfolding downlink
-  head = at-place 0 12 (downlink last fields) [] Q₁ (A ++ fields ++ B ++ Q₂) (simp append-assoc) refl (omega (arith, lengths))
+  first-q = at-place 0 12 (downlink last fields) [] Q₁ (A ++ fields ++ B ++ Q₂) (simp append-assoc) refl (omega (arith, lengths))
 
-  tail : slice 500 510 (downlink last fields) ≡ Q₂
+  last-q : slice 500 510 (downlink last fields) ≡ Q₂
   unfolding downlink
-  tail =
+  last-q =
       at-place 500 510 (downlink last fields) (Q₁ ++ A ++ fields ++ B) Q₂ [] (sym (append-nil (downlink last fields)))
       (simp length-append (omega (arith, lengths)))
       (omega (arith, lengths))
@@ -114,7 +115,7 @@ sync-downlink blk1 bbk blk2 l m r =
     let part = inner 108 fields n (lit≤ tt) (lit≤ tt) refl in
     record {
       whole = long 108 fields n (lit≤ tt) (lit≤ tt) refl;
-      head = head 108 fields n (lit≤ tt) (lit≤ tt) refl;
+      head = first-q 108 fields n (lit≤ tt) (lit≤ tt) refl;
       hc = first-adjusts 108 fields n (lit≤ tt) (lit≤ tt) refl;
       f = part 14 94 [] F (blk1 ++ Y ++ bbk ++ blk2) (simp append-assoc) refl (omega (arith, fixed-lengths));
       first = part 94 214 F blk1 (Y ++ bbk ++ blk2) (simp append-assoc) (omega (arith, fixed-lengths)) (omega arith);
@@ -122,7 +123,7 @@ sync-downlink blk1 bbk blk2 l m r =
       middle = part 252 282 (F ++ blk1 ++ Y) bbk blk2 refl (simp length-append (omega (arith, fixed-lengths))) (omega arith);
       last = part 282 498 (F ++ blk1 ++ Y ++ bbk) blk2 [] (sym (append-nil fields)) (simp length-append (omega (arith, fixed-lengths))) (omega arith);
       hd = last-adjusts 108 fields n (lit≤ tt) (lit≤ tt) refl;
-      tail = tail 108 fields n (lit≤ tt) (lit≤ tt) refl;
+      tail = last-q 108 fields n (lit≤ tt) (lit≤ tt) refl;
     }
 
 normal-downlink : (k : ℕ) (blk1 bbk blk2 : List ℕ) → length blk1 ≡ 216 → length bbk ≡ 30 → length blk2 ≡ 216
@@ -138,7 +139,7 @@ normal-downlink k blk1 bbk blk2 l m r =
     let part = inner 122 fields n (lit≤ tt) (lit≤ tt) refl in
     record {
       whole = long 122 fields n (lit≤ tt) (lit≤ tt) refl;
-      head = head 122 fields n (lit≤ tt) (lit≤ tt) refl;
+      head = first-q 122 fields n (lit≤ tt) (lit≤ tt) refl;
       ha = first-adjusts 122 fields n (lit≤ tt) (lit≤ tt) refl;
       first = part 14 230 [] blk1 (M ++ T ++ N ++ blk2) (simp append-assoc) refl (omega arith);
       middle-first = part 230 244 blk1 M (T ++ N ++ blk2) (simp append-assoc) (omega arith) (omega arith);
@@ -146,8 +147,46 @@ normal-downlink k blk1 bbk blk2 l m r =
       middle-last = part 266 282 (blk1 ++ M ++ T) N blk2 refl (simp length-append (omega (arith, training-length k))) (omega arith);
       last = part 282 498 (blk1 ++ M ++ T ++ N) blk2 [] (sym (append-nil fields)) (simp length-append (omega (arith, training-length k))) (omega arith);
       hb = last-adjusts 122 fields n (lit≤ tt) (lit≤ tt) refl;
-      tail = tail 122 fields n (lit≤ tt) (lit≤ tt) refl;
+      tail = last-q 122 fields n (lit≤ tt) (lit≤ tt) refl;
     }
+
+-- ---- the uplink bursts: two blocks of n bits around a sequence of k
+
+uplink-fixed : (length tail ≡ 4) × (length extended ≡ 30)
+unfolding tail extended
+uplink-fixed = (refl, refl)
+
+module _ (sequence blk1 blk2 : List ℕ) (n k : ℕ) (q : length sequence ≡ k) (l : length blk1 ≡ n) (r : length blk2 ≡ n) where
+  abbrev U : List ℕ
+  U = uplink sequence blk1 blk2
+
+  pub uplink-length : length U ≡ 8 + 2 * n + k
+  unfolding uplink
+  uplink-length = simp length-append (omega (arith, uplink-fixed))
+
+  uplink-head : slice 0 4 U ≡ tail
+  unfolding uplink
+  uplink-head = at-place 0 4 U [] tail (blk1 ++ sequence ++ blk2 ++ tail) (simp append-assoc) refl (omega (arith, uplink-fixed))
+
+  uplink-first : slice 4 (4 + n) U ≡ blk1
+  unfolding uplink
+  uplink-first = at-place 4 (4 + n) U tail blk1 (sequence ++ blk2 ++ tail) (simp append-assoc) (uplink-fixed .0) (omega arith)
+
+  uplink-training : slice (4 + n) (4 + n + k) U ≡ sequence
+  unfolding uplink
+  uplink-training = at-place (4 + n) (4 + n + k) U (tail ++ blk1) sequence (blk2 ++ tail) (simp append-assoc) (simp length-append (omega (arith, uplink-fixed))) (omega arith)
+
+  uplink-last : slice (4 + n + k) (4 + 2 * n + k) U ≡ blk2
+  unfolding uplink
+  uplink-last =
+      at-place (4 + n + k) (4 + 2 * n + k) U (tail ++ blk1 ++ sequence) blk2 tail refl (simp length-append (omega (arith, uplink-fixed))) (omega arith)
+
+  uplink-end : slice (4 + 2 * n + k) (8 + 2 * n + k) U ≡ tail
+  unfolding uplink
+  uplink-end =
+      at-place (4 + 2 * n + k) (8 + 2 * n + k) U (tail ++ blk1 ++ sequence ++ blk2) tail [] (sym (append-nil U))
+      (simp length-append (omega (arith, uplink-fixed)))
+      (omega (arith, uplink-fixed))
 
 -- ---- what the builders answer, where they do not refuse
 
@@ -164,3 +203,37 @@ normal-places k blk1 bbk blk2 e =
     let z = sym (burst-number _ _ _) ∙ e in
     let l = right-lengths 216 blk1 bbk blk2 (trainingRefusal k) z in
     rw (burst-bits _ 122 (normalFields (trainingOf k) blk1 bbk blk2) z) (normal-downlink k blk1 bbk blk2 (l .0) (l .1) (l .2))
+
+pub normal-uplink-places : (k : ℕ) (blk1 blk2 : List ℕ) → uplinkNumber (normalUplink k blk1 blk2) ≡ accepted
+    → NormalUplinkPlaces k blk1 blk2 (uplinkBits (normalUplink k blk1 blk2))
+unfolding normalUplink
+normal-uplink-places k blk1 blk2 e =
+    let z = sym (uplink-number _ 462 _) ∙ e in
+    let p = right-pair 216 blk1 blk2 (trainingRefusal k) z in
+    let s = trainingOf k in
+    let q = training-length k in
+    rw (uplink-bits _ 462 (uplink s blk1 blk2) z)
+    (record {
+      whole = uplink-length s blk1 blk2 216 22 q (p .0) (p .1);
+      head = uplink-head s blk1 blk2 216 22 q (p .0) (p .1);
+      first = uplink-first s blk1 blk2 216 22 q (p .0) (p .1);
+      training = uplink-training s blk1 blk2 216 22 q (p .0) (p .1);
+      last = uplink-last s blk1 blk2 216 22 q (p .0) (p .1);
+      end = uplink-end s blk1 blk2 216 22 q (p .0) (p .1);
+    })
+
+pub control-uplink-places : (blk1 blk2 : List ℕ) → uplinkNumber (controlUplink blk1 blk2) ≡ accepted → ControlUplinkPlaces blk1 blk2 (uplinkBits (controlUplink blk1 blk2))
+unfolding controlUplink
+control-uplink-places blk1 blk2 e =
+    let z = sym (uplink-number _ 206 _) ∙ e in
+    let p = right-pair 84 blk1 blk2 0 z in
+    let q = uplink-fixed .1 in
+    rw (uplink-bits _ 206 (uplink extended blk1 blk2) z)
+    (record {
+      whole = uplink-length extended blk1 blk2 84 30 q (p .0) (p .1);
+      head = uplink-head extended blk1 blk2 84 30 q (p .0) (p .1);
+      first = uplink-first extended blk1 blk2 84 30 q (p .0) (p .1);
+      training = uplink-training extended blk1 blk2 84 30 q (p .0) (p .1);
+      last = uplink-last extended blk1 blk2 84 30 q (p .0) (p .1);
+      end = uplink-end extended blk1 blk2 84 30 q (p .0) (p .1);
+    })

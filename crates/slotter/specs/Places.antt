@@ -1,4 +1,5 @@
--- What holds of a built burst, said of its 510 bits alone (01, "Burst bits"): the fields at their places, end excluded, and the two adjustment symbols.
+-- What holds of a built burst, said of its bits alone (01, "Burst bits"; 02, point 1): the fields at their places, end excluded, and a downlink burst's two
+-- adjustment symbols.
 -- proofs/Places.antt proves it of every burst that the builders make.
 use mathlib.Core.Path.{_≡_}
 use Prim.Native.Nat.{ℕ, _-_, _*_, _<_}
@@ -6,7 +7,7 @@ use mathlib.Core.List.{List, [], _∷_}
 use lib.IntN.{_+ℤ_}
 use lib.ListN.{length, take, drop}
 use lib.Seq.{slice}
-use Rattle.train_consts.specs.Training.{normal3, synchronization, frequencyCorrection}
+use Rattle.train_consts.specs.Training.{normal3, extended, synchronization, frequencyCorrection, tail}
 use Rattle.dsp_types.specs.Phases.{phaseOf, modulo8}
 use Rattle.slotter.specs.Phases.{phaseSum}
 use Rattle.slotter.specs.Bursts.{trainingOf}
@@ -45,3 +46,21 @@ pub record NormalPlaces (n : ℕ) (blk1 bbk blk2 bits : List ℕ) : Type 0 where
   pub last : slice 282 498 bits ≡ blk2
   pub hb : Adjusts 250 123 249 bits
   pub tail : slice 500 510 bits ≡ take 10 normal3
+
+-- clause 9.4.4.2.4, with the training sequence of that number
+pub record NormalUplinkPlaces (n : ℕ) (blk1 blk2 bits : List ℕ) : Type 0 where
+  pub whole : length bits ≡ 462
+  pub head : slice 0 4 bits ≡ tail
+  pub first : slice 4 220 bits ≡ blk1
+  pub training : slice 220 242 bits ≡ trainingOf n
+  pub last : slice 242 458 bits ≡ blk2
+  pub end : slice 458 462 bits ≡ tail
+
+-- clause 9.4.4.2.1
+pub record ControlUplinkPlaces (blk1 blk2 bits : List ℕ) : Type 0 where
+  pub whole : length bits ≡ 206
+  pub head : slice 0 4 bits ≡ tail
+  pub first : slice 4 88 bits ≡ blk1
+  pub training : slice 88 118 bits ≡ extended
+  pub last : slice 118 202 bits ≡ blk2
+  pub end : slice 202 206 bits ≡ tail
