@@ -32,7 +32,7 @@ use Rattle.account.specs.Reachable as Reachable
 use Rattle.account.specs.Reachable.{Reachable, anew, told}
 use Rattle.account.proofs.Laws.{SyncPlace, sync-place}
 use Rattle.account.proofs.Times.{ready-parts, found-parts}
-use Rattle.account.proofs.Views.{Views, none-valid, valid-slot}
+use Rattle.slot_receiver.proofs.Taken.{Views, none-valid, valid-slot}
 use Rattle.timing.specs.Tracking.{movedOf}
 use Rattle.account.proofs.Simulation.{shifted-parts, gap-span, advanced}
 use Rattle.account.proofs.Simulation.{valid-heard}

@@ -1,53 +1,37 @@
 -- A burst of our builders with at most one flipped bit has its type: its training sequence stands in its place with at most one bit wrong.
-use mathlib.Core.Path.{_≡_, refl, ap, sym, _∙_}
+use mathlib.Core.Path.{_≡_, refl, sym, _∙_}
 use mathlib.Core.Bool.{Bool, true, false, cond, _||_}
-use mathlib.Core.List.{List, [], _∷_}
+use mathlib.Core.List.{List}
 use Prim.Native.Nat.{ℕ, _+_, _≤_}
 use native.Mathlib.Omega.{arith}
-use lib.ListN.{length, take, drop}
-use lib.Seq.{slice, take-add, drop-at, length-take-le}
+use lib.ListN.{length}
+use lib.Seq.{slice}
 use lib.Dec.{eqb}
-use borrow.Author.Tests.{eq-eqb, eqb-true}
+use borrow.Author.Tests.{eqb-true}
 use Rattle.dsp_types.specs.Refusals.{accepted, wrongLength, notBits}
 use Rattle.train_consts.specs.Training.{synchronization, normal1, normal2}
 use Rattle.burst_finder.specs.Search.{hammingDistance, errorsAt}
-use Rattle.burst_finder.proofs.Distance.{distance-take}
+use Rattle.burst_finder.proofs.Exact.{exact-at}
 use Rattle.burst_finder.proofs.Downlink.{flipped, downlink, sync-type, normal1-type, normal2-type}
 use Rattle.slotter.specs.Bursts.{blockRefusal, trainingRefusal, trainingOf, normalBurst}
 use Rattle.slotter.proofs.Answers.{burst-number}
+use Rattle.slotter.proofs.Refusal.{passed}
 use Rattle.slotter.proofs.Places.{sync-places, normal-places}
 use Rattle.rx_slot.specs.Views.{viewOn, checked}
 use Rattle.account.specs.Rules.{typeOf}
 use Rattle.account.specs.Account.{Built, sync, normal, Burst}
-
-distance-self : (s : List ℕ) → hammingDistance s s ≡ 0
-unfolding hammingDistance
-distance-self [] = refl
-distance-self (b ∷ s) = rw (eq-eqb b b refl) (omega (arith, distance-self s))
-
--- a sequence that stands at a place has no bit wrong there
-exact-at : (sent sequence : List ℕ) (place n : ℕ) → place ≤ length sent → slice place (place + n) sent ≡ sequence → length sequence ≤ n → errorsAt sent sequence place ≡ 0
-unfolding errorsAt
-exact-at sent sequence place n h e l =
-    sym (distance-take n (drop place sent) sequence l) ∙ ap (λ (f : List ℕ). hammingDistance f sequence) (sym whole ∙ e) ∙ distance-self sequence
-  where
-    whole : slice place (place + n) sent ≡ take n (drop place sent)
-    whole = rw (take-add place n sent) (drop-at (take place sent) (take n (drop place sent)) place (length-take-le place sent h))
 
 lengths : (length synchronization ≡ 38) × (length normal1 ≡ 22) × (length normal2 ≡ 22)
 unfolding synchronization normal1 normal2
 lengths = (refl, refl, refl)
 
 -- a normal burst that is not refused has training sequence 1 or 2
-last-test : (a b : Bool) (k : ℕ) → cond a 3 (cond b 4 k) ≡ 0 → k ≡ 0
-last-test true b k e = absurd (omega (arith, e))
-last-test false true k e = absurd (omega (arith, e))
-last-test false false k e = e
-
 training-accepted : (n : ℕ) (blk1 bbk blk2 : List ℕ) → normalBurst n blk1 bbk blk2 .number ≡ accepted → trainingRefusal n ≡ 0
 unfolding normalBurst blockRefusal
 training-accepted n blk1 bbk blk2 e =
-    last-test (wrongLength 216 blk1 || wrongLength 30 bbk || wrongLength 216 blk2) (notBits blk1 || notBits bbk || notBits blk2) (trainingRefusal n) (sym (burst-number _ _ _) ∙ e)
+    passed (wrongLength 216 blk1 || wrongLength 30 bbk || wrongLength 216 blk2) (notBits blk1 || notBits bbk || notBits blk2) (trainingRefusal n)
+    (sym (burst-number _ _ _) ∙ e)
+    .2
 
 second : (n : ℕ) → eqb n 1 ≡ false → trainingRefusal n ≡ 0 → n ≡ 2
 unfolding trainingRefusal

@@ -1,7 +1,6 @@
 pub mod Bursts
 pub mod Laws
 pub mod Times
-pub mod Views
 pub mod Simulation
 pub mod Numbers
 pub mod Bounds

@@ -24,7 +24,7 @@ use Rattle.slot_receiver.specs.Windows.{slot, Window, searchKind, kindOf, windo
 use Rattle.slot_receiver.specs.Calls.{took, Outcome, unless, sampleRefusal, sampled, sampleOutcome, takeRefusal, taken, takeOutcome}
 use Rattle.receiver.specs.Feed.{Block, fedOne, fedBy, feedOf}
 use Rattle.account.specs.Numbers.{Numbered}
-use Rattle.account.proofs.Views.{Views, none-valid, window-valid, valid-number}
+use Rattle.slot_receiver.proofs.Taken.{Views, none-valid, window-valid, valid-number}
 
 -- ---- from r to r′, closing the windows ws
 pub record Step (r r′ : Receiver) (ws : List Window) : Type 0 where

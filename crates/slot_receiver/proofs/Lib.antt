@@ -5,3 +5,4 @@ pub mod Doors
 pub mod Keeping
 mod Handing
 pub mod Outcomes
+pub mod Taken

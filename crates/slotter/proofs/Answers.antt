@@ -7,6 +7,7 @@ use lib.ListN.{take, drop, replicate}
 use Rattle.slotter.specs.declared.Burst.{Burst}
 use Rattle.slotter.specs.declared.Answer.{Answer}
 use Rattle.slotter.specs.declared.Answer.the-variants.{Built, Refused}
+use Rattle.slotter.specs.declared.uplink.UplinkAnswer.{UplinkAnswer}
 use Rattle.slotter.specs.declared.uplink.UplinkAnswer.the-variants as uplink-answer
 use Rattle.train_consts.specs.Training.{normal3}
 use Rattle.slotter.specs.Phases.{phaseSum, adjustment}
@@ -96,3 +97,14 @@ uplink-number (suc n) length fields = refl
 pub uplink-bits : (n length : ℕ) (fields : List ℕ) → n ≡ 0 → uplinkBits (uplinkUnless n length fields) ≡ fields
 unfolding uplinkBits uplinkUnless
 uplink-bits n length fields e = rw e
+
+-- an answer's number whatever its bits, and its bits whatever its number
+pub told-uplink-number : (answer : UplinkAnswer) (bits : List ℕ) → uplinkNumber (uplinkReply answer []) ≡ uplinkNumber (uplinkReply answer bits)
+unfolding uplinkNumber uplinkReply
+told-uplink-number uplink-answer.Built bits = refl
+told-uplink-number (uplink-answer.Refused n) bits = refl
+
+pub told-uplink-bits : (answer : UplinkAnswer) (bits : List ℕ) → bits ≡ uplinkBits (uplinkReply answer bits)
+unfolding uplinkBits uplinkReply
+told-uplink-bits uplink-answer.Built bits = refl
+told-uplink-bits (uplink-answer.Refused n) bits = refl

@@ -2,7 +2,7 @@ pub mod Adjustment
 mod Phase
 mod Folding
 pub mod Windows
-mod Fields
+pub mod Fields
 pub mod Refusal
 pub mod Placing
 pub mod Answers

@@ -33,13 +33,13 @@ bits-drop zero bits e = e
 bits-drop (suc n) [] e = refl
 bits-drop (suc n) (b ∷ bits) e = bits-drop n bits (neither (ltb 1 b) (notBits bits) e .1)
 
-bits-take : (n : ℕ) (bits : List ℕ) → notBits bits ≡ false → notBits (take n bits) ≡ false
+pub bits-take : (n : ℕ) (bits : List ℕ) → notBits bits ≡ false → notBits (take n bits) ≡ false
 unfolding notBits
 bits-take zero bits e = refl
 bits-take (suc n) [] e = refl
 bits-take (suc n) (b ∷ bits) e = let h = neither (ltb 1 b) (notBits bits) e in rw (h .0) (bits-take n bits (h .1))
 
-bits-read : (bits : List ℕ) → notBits bits ≡ false → map (λ b. b % 2) bits ≡ bits
+pub bits-read : (bits : List ℕ) → notBits bits ≡ false → map (λ b. b % 2) bits ≡ bits
 unfolding notBits
 bits-read [] e = refl
 bits-read (b ∷ bits) e =
