@@ -1,8 +1,11 @@
 // An uplink burst that the builders make is found again: calls one behind the other, and what is proved of their answers.
+mod receive;
 use burst_finder::Finding;
 use burst_finder::SlotType;
 use burst_finder::check_slot;
 use logger::judge;
+pub use receive::Received;
+pub use receive::sample_and_take;
 use slotter::build_cub;
 use slotter::build_nub;
 use slotter::place;
