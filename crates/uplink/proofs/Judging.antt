@@ -1,11 +1,12 @@
 -- The calls on a built burst: its window has bits alone, so that the logger's call is not refused, and both calls report it.
 use mathlib.Core.Path.{_≡_, refl, sym, ap, subst, _∙_}
 use mathlib.Core.Bool.{Bool, true, false, cond}
-use mathlib.Core.List.{List, [], _∷_, _++_}
-use Prim.Native.Nat.{ℕ, zero, suc, _+_, _*_, _≤_}
+use mathlib.Core.List.{List, [], _∷_, _++_, append-assoc}
+use Prim.Native.Nat.{ℕ, zero, suc, _+_, _-_, _*_, _≤_}
 use native.Mathlib.Omega.{arith}
 use lib.Dec.{ltb, eqb}
-use lib.ListN.{length, replicate}
+use lib.ListN.{length, take, replicate, length-replicate}
+use lib.Seq.{take-at, drop-at}
 use borrow.Author.Tests.{eq-eqb}
 use Rattle.dsp_types.specs.Refusals.{accepted, wrongLength, notBits}
 use Rattle.dsp_types.proofs.Laws.{neither}
@@ -14,14 +15,16 @@ use Rattle.burst_finder.specs.declared.Finding.{Finding}
 use Rattle.burst_finder.specs.declared.SlotType.{SlotType}
 use Rattle.burst_finder.specs.declared.SlotType.the-variants.{UlFull, UlSub}
 use Rattle.burst_finder.specs.Search.{errorsAt}
-use Rattle.burst_finder.specs.Slots.{checkSlot}
+use Rattle.burst_finder.specs.Slots.{checkSlot, getBurst}
+use Rattle.burst_finder.proofs.Findings.{view-is}
 use Rattle.logger.specs.Judge.{slotTypeOf, windowLength, wrongWindow, findingBytes, judgeRefusal, judgeAnswer}
 use Rattle.slotter.specs.Bursts.{trainingOf, trainingRefusal}
 use Rattle.slotter.specs.declared.uplink.UplinkAnswer.{UplinkAnswer}
 use Rattle.slotter.specs.Uplink.{uplink, pairRefusal, UplinkReply, uplinkReply, normalUplink, controlUplink, uplinkNumber, uplinkBits, placed}
 use Rattle.slotter.proofs.Answers.{uplink-number, uplink-bits, told-uplink-number, told-uplink-bits}
 use Rattle.slotter.proofs.Fields.{training-length}
-use Rattle.slotter.proofs.Placing.{placed-length}
+use Rattle.slotter.proofs.Placing.{placed-length, placed-whole}
+use Rattle.slotter.proofs.Places.{normal-uplink-places, control-uplink-places}
 use Rattle.slotter.proofs.Refusal.{right-pair}
 use Rattle.slot_receiver.proofs.Taken.{bits-take}
 use Rattle.uplink.specs.declared.Judged.{Judged}
@@ -54,6 +57,14 @@ uplink-bits-alone sequence blk1 blk2 s a b =
 window-bits : (n offset : ℕ) (burst : List ℕ) → notBits burst ≡ false → notBits (placed n offset burst) ≡ false
 unfolding placed
 window-bits n offset burst e = bits-take n _ (bits-append _ (replicate n 0) (bits-append (replicate offset 0) burst (bits-zeros offset) e) (bits-zeros n))
+
+-- the part of a window where a burst was placed
+own-part : (n offset len : ℕ) (burst : List ℕ) → length burst ≡ len → offset + len ≤ n → getBurst (placed n offset burst) offset len ≡ burst
+own-part n offset len burst e h =
+    let z : List ℕ = replicate offset 0 in
+    let rest : List ℕ = take (n - (offset + length burst)) (replicate n 0) in
+    view-is (placed n offset burst) offset len (omega (arith, placed-length offset burst n))
+    ∙ rw (placed-whole offset burst n (omega arith), append-assoc z burst rest, drop-at z (burst ++ rest) offset (length-replicate {A = ℕ} offset 0)) (take-at burst rest len e)
 
 extended-length : length extended ≡ 30
 unfolding extended
@@ -95,6 +106,10 @@ module _ (train : ℕ) (blk1 blk2 : List ℕ) (offset : ℕ) (built : uplinkNumb
       let p = right-pair 216 blk1 blk2 _ normal-number in
       rw (normal-window, e) (at-placing (trainingOf train) blk1 blk2 510 216 22 k (training-length train) (p .0) (p .1) (omega arith))
 
+  pub normal-part : offset ≤ 48 → getBurst (normalWindow train blk1 blk2 offset) offset 462 ≡ uplinkBits (normalUplink train blk1 blk2)
+  unfolding normalWindow
+  normal-part h = own-part 510 offset 462 (uplinkBits (normalUplink train blk1 blk2)) (normal-uplink-places train blk1 blk2 built .whole) (omega arith)
+
   -- whatever is said of its finding
   pub normal-reported : (says : Finding → Type 0) → says (checkSlot UlFull (normalWindow train blk1 blk2 offset)) → (k : ℕ) → offset ≡ 2 * k → k ≤ 24
       → NormalReported says train (normalWindow train blk1 blk2 offset) k
@@ -133,6 +148,10 @@ module _ (blk1 blk2 : List ℕ) (offset : ℕ) (built : uplinkNumber (controlUpl
   control-exact k e h =
       let p = right-pair 84 blk1 blk2 accepted control-number in
       rw (control-window, e) (at-placing extended blk1 blk2 254 84 30 k extended-length (p .0) (p .1) (omega arith))
+
+  pub control-part : offset ≤ 48 → getBurst (controlWindow blk1 blk2 offset) offset 206 ≡ uplinkBits (controlUplink blk1 blk2)
+  unfolding controlWindow
+  control-part h = own-part 254 offset 206 (uplinkBits (controlUplink blk1 blk2)) (control-uplink-places blk1 blk2 built .whole) (omega arith)
 
   pub control-said : (says : Finding → Type 0) → says (checkSlot UlSub (controlWindow blk1 blk2 offset)) → (k : ℕ) → offset ≡ 2 * k → k ≤ 24
       → ControlReported says (controlWindow blk1 blk2 offset) k

@@ -3,6 +3,7 @@ use mathlib.Core.Path.{_≡_, refl, sym, ap, subst, _∙_}
 use mathlib.Core.Bool.{true, false}
 use mathlib.Core.List.{List, []}
 use Prim.Native.Nat.{ℕ, _*_, _≤_}
+use native.Mathlib.Omega.{arith}
 use lib.IntN.{ℤ}
 use lib.ListN.{length, getD}
 use borrow.Author.Tests.{eq-eqb}
@@ -25,7 +26,7 @@ use Rattle.slot_receiver.proofs.Taken.{Views, window-valid, valid-slot}
 use Rattle.slotter.specs.Uplink.{normalUplink, controlUplink, uplinkNumber}
 use Rattle.uplink.specs.Placed.{normalWindow, controlWindow, NormalReported, ControlReported}
 use Rattle.uplink.specs.Received.{takenAfter, heard, ClosesUplink, Took, ControlTaken, BurstsTaken}
-use Rattle.uplink.proofs.Judging.{normal-reported, control-said}
+use Rattle.uplink.proofs.Judging.{normal-reported, normal-part, control-said, control-part}
 
 -- ---- the sample
 
@@ -131,4 +132,6 @@ bursts-taken r x c slot subslot1 subslot2 {reply} {lent} p q e a b d =
       full = normal-taken (Took (λ s. s .full) 0 510 reply lent) (windowBits s) (took-full s n reply lent t);
       first-half = control-taken (Took (λ s. s .subslot1) 1 254 reply lent) (bitsOf s 1024 128) (took-first s n reply lent t);
       second-half = control-taken (Took (λ s. s .subslot2) 2 254 reply lent) (bitsOf s 514 128) (took-second s n reply lent t);
+      full-bits = λ train blk1 blk2 k built h. normal-part train blk1 blk2 (2 * k) built (omega arith);
+      half-bits = λ blk1 blk2 k built h. control-part blk1 blk2 (2 * k) built (omega arith);
     }

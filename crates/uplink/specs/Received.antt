@@ -1,13 +1,12 @@
 -- An uplink receiver that closes a window with a built burst in it: the slot is taken with that burst (02, point 1). Definitions only.
 use mathlib.Core.Path.{_≡_}
 use mathlib.Core.Bool.{true}
-use mathlib.Core.List.{List, [], _∷_}
+use mathlib.Core.List.{List, []}
 use Prim.Native.Nat.{ℕ, _*_, _≤_}
 use lib.IntN.{ℤ}
-use lib.ListN.{length, getD}
+use lib.ListN.{getD}
 use Rattle.dsp_types.specs.declared.ComplexSample.{ComplexSample}
 use Rattle.dsp_types.specs.Refusals.{accepted}
-use Rattle.burst_finder.specs.declared.Finding.{Finding}
 use Rattle.burst_finder.specs.Slots.{getBurst}
 use Rattle.listener.specs.Signal.{bitsOf, windowBits}
 use Rattle.rx_slot.specs.declared.RxBurst.{RxBurst}
@@ -53,3 +52,8 @@ pub record BurstsTaken (r : Receiver) (x : ComplexSample) (c : ℤ) (reply : Rep
       → NormalReported (λ f. Took (λ s. s .full) 0 510 reply lent (viewOn (windowBits (heard r x c .signal)) f)) train (windowBits (heard r x c .signal)) k
   pub first-half : ControlTaken (bitsOf (heard r x c .signal) 1024 128) (Took (λ s. s .subslot1) 1 254 reply lent)
   pub second-half : ControlTaken (bitsOf (heard r x c .signal) 514 128) (Took (λ s. s .subslot2) 2 254 reply lent)
+  -- .. and the view of a burst at its own offset has that burst's very bits
+  pub full-bits : (train : ℕ) (blk1 blk2 : List ℕ) (k : ℕ) → uplinkNumber (normalUplink train blk1 blk2) ≡ accepted → k ≤ 24
+      → getBurst (normalWindow train blk1 blk2 (2 * k)) (2 * k) 462 ≡ uplinkBits (normalUplink train blk1 blk2)
+  pub half-bits : (blk1 blk2 : List ℕ) (k : ℕ) → uplinkNumber (controlUplink blk1 blk2) ≡ accepted → k ≤ 24
+      → getBurst (controlWindow blk1 blk2 (2 * k)) (2 * k) 206 ≡ uplinkBits (controlUplink blk1 blk2)

@@ -1,5 +1,6 @@
 // An uplink burst that the builders make is found again: calls one behind the other, and what is proved of their answers.
 mod receive;
+
 use burst_finder::Finding;
 use burst_finder::SlotType;
 use burst_finder::check_slot;
