@@ -1,6 +1,5 @@
 -- `builder::lend` meets its contract: as many bytes are filled with a burst, or nothing is stored.
 use mathlib.Core.Path.{_∙_}
-use native.Mathlib.Omega.{arith}
 use Rattle.modem.proofs.Building.{copied, bad-room, kept-room, builder's, filled, kept}
 use borrow.Author.Needs.{needs}
 use Rattle.modem.proofs.builder.lend.Statement.{statement}
