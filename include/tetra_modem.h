@@ -369,7 +369,7 @@ struct tetra_sent tetra_send(struct tetra_sender sender, int64_t first, uint32_t
 
 /* ---- Burst builders
  *
- * They need no state: blocks in, the 510 bits of a downlink burst out.
+ * They need no state: blocks in, a burst's bits out.
  */
 
 /* Builds a synchronization burst (EN 300 392-2, 9.4.4.2.6).
@@ -392,6 +392,34 @@ uint32_t tetra_build_sync(const uint8_t *blk1, size_t blk1_len, const uint8_t *b
  */
 uint32_t tetra_build_normal(uint32_t train, const uint8_t *blk1, size_t blk1_len, const uint8_t *bbk, size_t bbk_len,
                             const uint8_t *blk2, size_t blk2_len, uint8_t *bits, size_t bits_len);
+
+/* Builds a normal uplink burst (EN 300 392-2, 9.4.4.2.4), as a handset sends it.
+ *
+ * train: its training sequence, 1 or 2.
+ * blk1, blk2: its blocks, one byte a bit, 0 or 1: 216 of each.
+ * bits: 462 bytes that are lent for the call. An accepted call fills them with the burst's bits.
+ *
+ * tetra_judge of kind 1 looks for it at the even offsets from 0 to 48 of a window, 510 bits: placed at one of them among bits
+ * that are otherwise 0, it is told with its type, its offset and 0 errors. Unless its blocks hold a sequence too, where kind 1
+ * looks for one: its own at an earlier offset, or for sequence 2 the first sequence, with at most one wrong bit.
+ *
+ * Returns 0, 3, 4 or 5. Cost: as above.
+ */
+uint32_t tetra_build_normal_uplink(uint32_t train, const uint8_t *blk1, size_t blk1_len, const uint8_t *blk2, size_t blk2_len,
+                                   uint8_t *bits, size_t bits_len);
+
+/* Builds a control uplink burst (EN 300 392-2, 9.4.4.2.1), as a handset sends it in half a slot.
+ *
+ * blk1, blk2: its blocks, one byte a bit, 0 or 1: 84 of each.
+ * bits: 206 bytes that are lent for the call. An accepted call fills them with the burst's bits.
+ *
+ * tetra_judge of kind 2 looks for it at the even offsets from 0 to 48 of a window, 254 bits, and tells it there as above, unless
+ * its first block holds the extended sequence at an earlier offset.
+ *
+ * Returns 0, 3 or 4. Cost: as above.
+ */
+uint32_t tetra_build_control_uplink(const uint8_t *blk1, size_t blk1_len, const uint8_t *blk2, size_t blk2_len, uint8_t *bits,
+                                    size_t bits_len);
 
 /* ---- The call logger
  *

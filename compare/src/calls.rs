@@ -3,6 +3,7 @@
 use crate::bursts::Wanted;
 use crate::phy::components::demodulator::Mode;
 use crate::phy::components::dsp_types::{ComplexSample, SampleCount};
+use crate::uplink_bursts::UplinkWanted;
 
 pub const RECEIVERS: usize = 4;
 pub const LONGEST_SLICE: usize = 4096;
@@ -24,6 +25,7 @@ pub enum Call {
     /// The burst's letter and its blocks, joined.
     BuildJoined(char, Vec<u8>),
     Build(Wanted, [Vec<u8>; 3]),
+    BuildUplink(UplinkWanted, [Vec<u8>; 2]),
     NewLine,
     Filter(ComplexSample),
     Magnitude(ComplexSample),
@@ -51,6 +53,11 @@ pub fn read(line: &str) -> Option<Call> {
         ["d", sequence, blk1, bbk, blk2] => {
             Call::Build(wanted(sequence)?, [bits(blk1)?, bits(bbk)?, bits(blk2)?])
         }
+        ["u", sequence, blk1, blk2] => {
+            let wanted = UplinkWanted::Normal(number(sequence)?);
+            Call::BuildUplink(wanted, [bytes(blk1)?, bytes(blk2)?])
+        }
+        ["c", blk1, blk2] => Call::BuildUplink(UplinkWanted::Control, [bytes(blk1)?, bytes(blk2)?]),
         ["lnew"] => Call::NewLine,
         ["l", re, im] => Call::Filter(sample(re, im)?),
         ["m", re, im] => Call::Magnitude(sample(re, im)?),
@@ -99,6 +106,21 @@ fn bits(text: &str) -> Option<Vec<u8>> {
         .collect()
 }
 
+/// Bits, or `#` and two hexadecimal digits a byte.
+fn bytes(text: &str) -> Option<Vec<u8>> {
+    let Some(pairs) = text.strip_prefix('#') else {
+        return bits(text);
+    };
+    let digits: Option<Vec<u32>> = pairs.chars().map(|digit| digit.to_digit(16)).collect();
+    digits?
+        .chunks(2)
+        .map(|pair| match pair {
+            [high, low] => Some((16 * high + low) as u8),
+            _ => None,
+        })
+        .collect()
+}
+
 fn sample(re: &str, im: &str) -> Option<ComplexSample> {
     Some(ComplexSample {
         re: part(re)?,
@@ -139,9 +161,27 @@ mod tests {
             "b S -",
             "d x = = =",
             "d -1 = = =",
+            "d 1 # # #",
+            "u 4294967296 # #",
+            "u +1 # #",
+            "u S = =",
+            "u 1 # -",
+            "u 1 #",
+            "u 1 #0 #",
+            "u 1 #+1 #",
+            "c #0g #",
+            "c =a =",
+            "c # #001",
         ];
         for line in lines {
             assert!(read(line).is_none(), "{line:?}");
         }
+    }
+
+    #[test]
+    fn bytes_in_both_forms() {
+        assert_eq!(bytes("=019"), Some(vec![0, 1, 9]));
+        assert_eq!(bytes("#0001fFA0"), Some(vec![0, 1, 255, 160]));
+        assert_eq!((bytes("="), bytes("#")), (Some(vec![]), Some(vec![])));
     }
 }

@@ -14,6 +14,7 @@ pub mod refusals;
 pub mod session;
 mod shims;
 pub mod stand_ins;
+pub mod uplink_bursts;
 
 pub use shims::{complex, zero, Complex};
 pub use stand_ins::{TdmaTime, TrainingSequence};

@@ -1,6 +1,6 @@
 //! What a list of calls works on, and the answer to each call: the original's, behind document 01's refusals.
 
-use crate::bursts::{self, Burst};
+use crate::bursts;
 use crate::calls::{self, Call};
 use crate::phy::components::demodulator::{demodulator_private, Demodulator, Mode};
 use crate::phy::components::dsp_types::{ComplexSample, SampleCount};
@@ -10,6 +10,7 @@ use crate::phy::components::modulator::{self, Modulator};
 use crate::phy::traits::rxtx_dev::TxSlotBits;
 use crate::refusals::*;
 use crate::stand_ins::{magnitude, quarter_turns, SLOTS};
+use crate::uplink_bursts;
 use crate::{TdmaTime, TrainingSequence};
 
 /// Bits of a full and of a half window, and bytes of the logger's answer.
@@ -73,6 +74,9 @@ impl Session {
             Call::BuildJoined(letter, bits) => built(bursts::build_joined(letter, &bits)),
             Call::Build(wanted, blocks) => {
                 built(bursts::build(wanted, blocks.each_ref().map(Vec::as_slice)))
+            }
+            Call::BuildUplink(wanted, [first, second]) => {
+                built(uplink_bursts::build(wanted, [&first, &second]))
             }
             Call::NewLine => {
                 self.line = new_line();
@@ -175,8 +179,8 @@ fn done() -> Outcome {
     Ok("ok".into())
 }
 
-fn built(burst: Result<Burst, Refusal>) -> Outcome {
-    Ok(format!("burst {}", digits(&burst?)))
+fn built(burst: Result<impl AsRef<[u8]>, Refusal>) -> Outcome {
+    Ok(format!("burst {}", digits(burst?.as_ref())))
 }
 
 fn out(sample: ComplexSample) -> Outcome {

@@ -13,6 +13,7 @@
 
 static const char *NORMAL_1 = "1101000011101001110100";
 static const char *NORMAL_2 = "0111101001000011011110";
+static const char *EXTENDED = "100111010000111010011101000011";
 static const char *SYNC = "11000001100111001110100111000001100111";
 
 static uint8_t blk1[216], bbk[30], blk2[216];
@@ -54,18 +55,24 @@ static uint32_t normal_burst(uint32_t train, size_t a, size_t b, size_t c, size_
     return tetra_build_normal(train, blk1, a, bbk, b, blk2, c, bits, n);
 }
 
-/* The burst in `bits` is judged as one of that type without errors, and no byte behind it was written. */
-static void is_burst(const char *what, uint32_t returned, uint8_t type)
+/* A window of n bits is judged as one with a burst of that type, place and length and without errors. */
+static void judged(const char *what, uint32_t kind, const uint8_t *window, size_t n, uint8_t type, size_t place, size_t length)
 {
     uint8_t answer[TETRA_ANSWER_BYTES];
 
-    expect(what, returned, TETRA_ACCEPTED);
-    kept(what, bits, TETRA_SLOT_BITS, sizeof bits);
-    expect(what, tetra_judge(TETRA_DOWNLINK, bits, TETRA_SLOT_BITS, answer, sizeof answer), TETRA_ACCEPTED);
+    expect(what, tetra_judge(kind, window, n, answer, sizeof answer), TETRA_ACCEPTED);
     expect(what, answer[0], type);
     expect(what, answer[1], 0);
-    expect(what, answer[2] + 256 * answer[3], 0);
-    expect(what, answer[4] + 256 * answer[5], TETRA_SLOT_BITS);
+    expect(what, answer[2] + 256 * answer[3], (int64_t)place);
+    expect(what, answer[4] + 256 * answer[5], (int64_t)length);
+}
+
+/* The burst in `bits` is judged as one of that type, and no byte behind it was written. */
+static void is_burst(const char *what, uint32_t returned, uint8_t type)
+{
+    expect(what, returned, TETRA_ACCEPTED);
+    kept(what, bits, TETRA_SLOT_BITS, sizeof bits);
+    judged(what, TETRA_DOWNLINK, bits, TETRA_SLOT_BITS, type, 0, TETRA_SLOT_BITS);
 }
 
 static void no_burst(const char *what, uint32_t returned, uint32_t refusal)
@@ -131,6 +138,86 @@ static void not_built(void)
     bbk[0] = 255;
     no_burst("sync, no bit in the middle", sync_burst(120, 30, 216, 510), TETRA_BAD_BIT);
     bbk[0] = 0;
+}
+
+/* ---- the uplink builders */
+
+static uint32_t normal_uplink(uint32_t train, size_t a, size_t b, size_t n)
+{
+    memset(bits, KEPT, sizeof bits);
+    return tetra_build_normal_uplink(train, blk1, a, blk2, b, bits, n);
+}
+
+static uint32_t control_uplink(size_t a, size_t b, size_t n)
+{
+    memset(bits, KEPT, sizeof bits);
+    return tetra_build_control_uplink(blk1, a, blk2, b, bits, n);
+}
+
+/* The burst in `bits`, of that length, has each field in its place, and no byte behind it was written. */
+static void has_fields(const char *what, uint32_t returned, const char *sequence, size_t length)
+{
+    size_t n = strlen(sequence), block = (length - n) / 2 - 4;
+
+    expect(what, returned, TETRA_ACCEPTED);
+    at(what, 0, "1100");
+    expect(what, memcmp(bits + 4, blk1, block), 0);
+    at(what, 4 + block, sequence);
+    expect(what, memcmp(bits + 4 + block + n, blk2, block), 0);
+    at(what, length - 4, "1100");
+    kept(what, bits, length, sizeof bits);
+}
+
+/* At each even offset from 0 to 48 of a window of n bits, otherwise zeros, the burst in `bits` is judged as one of that type. */
+static void is_found(const char *what, uint32_t kind, size_t n, uint8_t type, size_t length)
+{
+    for (size_t offset = 0; offset <= 48; offset += 2) {
+        uint8_t window[TETRA_SLOT_BITS] = { 0 };
+
+        memcpy(window + offset, bits, length);
+        judged(what, kind, window, n, type, offset, length);
+    }
+}
+
+static void uplink_built(void)
+{
+    for (uint8_t step = 0; step < 3; step++) {
+        fill_blocks(step);
+        has_fields("normal uplink 1", normal_uplink(1, 216, 216, 462), NORMAL_1, 462);
+        is_found("normal uplink 1", TETRA_UPLINK_FULL, TETRA_SLOT_BITS, TETRA_NORMAL_1, 462);
+        has_fields("normal uplink 2", normal_uplink(2, 216, 216, 462), NORMAL_2, 462);
+        is_found("normal uplink 2", TETRA_UPLINK_FULL, TETRA_SLOT_BITS, TETRA_NORMAL_2, 462);
+        has_fields("control uplink", control_uplink(84, 84, 206), EXTENDED, 206);
+        is_found("control uplink", TETRA_UPLINK_HALF, TETRA_HALF_SLOT_BITS, TETRA_EXTENDED, 206);
+    }
+}
+
+/* Refused, and the smallest number first: a length, then a byte that is no bit, then the training sequence. */
+static void uplink_not_built(void)
+{
+    fill_blocks(0);
+    no_burst("normal uplink, first block", normal_uplink(1, 215, 216, 462), TETRA_BAD_LENGTH);
+    no_burst("normal uplink, second block", normal_uplink(2, 216, 0, 462), TETRA_BAD_LENGTH);
+    no_burst("normal uplink, 461 bytes", normal_uplink(1, 216, 216, 461), TETRA_BAD_LENGTH);
+    no_burst("normal uplink, 463 bytes", normal_uplink(1, 216, 216, 463), TETRA_BAD_LENGTH);
+    no_burst("uplink sequence 0", normal_uplink(0, 216, 216, 462), TETRA_BAD_TRAINING);
+    no_burst("uplink sequence 3", normal_uplink(3, 216, 216, 462), TETRA_BAD_TRAINING);
+    no_burst("uplink sequence 3, 461 bytes", normal_uplink(3, 216, 216, 461), TETRA_BAD_LENGTH);
+    no_burst("control uplink, first block", control_uplink(85, 84, 206), TETRA_BAD_LENGTH);
+    no_burst("control uplink, second block", control_uplink(84, 83, 206), TETRA_BAD_LENGTH);
+    no_burst("control uplink, 205 bytes", control_uplink(84, 84, 205), TETRA_BAD_LENGTH);
+    no_burst("control uplink, 462 bytes", control_uplink(84, 84, 462), TETRA_BAD_LENGTH);
+
+    blk1[0] = 2;
+    no_burst("normal uplink, no bit", normal_uplink(3, 216, 216, 462), TETRA_BAD_BIT);
+    no_burst("normal uplink, no bit, block of 215", normal_uplink(3, 216, 215, 462), TETRA_BAD_LENGTH);
+    no_burst("control uplink, no bit", control_uplink(84, 84, 206), TETRA_BAD_BIT);
+    no_burst("control uplink, no bit, 205 bytes", control_uplink(84, 84, 205), TETRA_BAD_LENGTH);
+    blk1[0] = 0;
+    blk2[83] = 255;
+    no_burst("normal uplink, 255", normal_uplink(1, 216, 216, 462), TETRA_BAD_BIT);
+    no_burst("control uplink, 255", control_uplink(84, 84, 206), TETRA_BAD_BIT);
+    blk2[83] = 0;
 }
 
 /* ---- states */
@@ -537,6 +624,8 @@ int main(void)
 {
     built();
     not_built();
+    uplink_built();
+    uplink_not_built();
     layout();
     samples();
     blocks();

@@ -106,6 +106,8 @@ extern "C" {
 
     pub fn tetra_build_sync(blk1: *const u8, blk1_len: usize, bbk: *const u8, bbk_len: usize, blk2: *const u8, blk2_len: usize, bits: *mut u8, bits_len: usize) -> u32;
     pub fn tetra_build_normal(train: u32, blk1: *const u8, blk1_len: usize, bbk: *const u8, bbk_len: usize, blk2: *const u8, blk2_len: usize, bits: *mut u8, bits_len: usize) -> u32;
+    pub fn tetra_build_normal_uplink(train: u32, blk1: *const u8, blk1_len: usize, blk2: *const u8, blk2_len: usize, bits: *mut u8, bits_len: usize) -> u32;
+    pub fn tetra_build_control_uplink(blk1: *const u8, blk1_len: usize, blk2: *const u8, blk2_len: usize, bits: *mut u8, bits_len: usize) -> u32;
 
     pub fn tetra_judge(kind: u32, bits: *const u8, bits_len: usize, answer: *mut u8, answer_len: usize) -> u32;
 }

@@ -1,4 +1,4 @@
-//! The burst builders, named as in the source's slotter.rs.
+//! The burst builders, named as in the source's slotter.rs, and those of the uplink, which it has not.
 
 use crate::burst_consts::*;
 use crate::ffi;
@@ -64,5 +64,36 @@ pub fn build_ndb(
             TIMESLOT_TYPE4_BITS,
         )
     };
+    Refusal::none(refusal).map(|()| bits)
+}
+
+/// Constructs a normal uplink burst (EN 300 392-2, 9.4.4.2.4) from two blocks, one byte a bit. A byte that is neither 0 nor 1 is
+/// refused, and a training sequence other than the two normal ones.
+pub fn build_nub(
+    train_seq: TrainingSequence,
+    blk1: &[u8; NUB_BLK_BITS],
+    blk2: &[u8; NUB_BLK_BITS],
+) -> Result<[u8; NUB_BITS], Refusal> {
+    let mut bits = [0; NUB_BITS];
+    let (a, b, out) = (blk1.as_ptr(), blk2.as_ptr(), bits.as_mut_ptr());
+    let train = train_seq as u32;
+    // SAFETY: as above.
+    let refusal = unsafe {
+        ffi::tetra_build_normal_uplink(train, a, blk1.len(), b, blk2.len(), out, NUB_BITS)
+    };
+    Refusal::none(refusal).map(|()| bits)
+}
+
+/// Constructs a control uplink burst (EN 300 392-2, 9.4.4.2.1) from two blocks, one byte a bit. A byte that is neither 0 nor 1
+/// is refused.
+pub fn build_cub(
+    blk1: &[u8; CUB_BLK_BITS],
+    blk2: &[u8; CUB_BLK_BITS],
+) -> Result<[u8; CUB_BITS], Refusal> {
+    let mut bits = [0; CUB_BITS];
+    let (a, b, out) = (blk1.as_ptr(), blk2.as_ptr(), bits.as_mut_ptr());
+    // SAFETY: as above.
+    let refusal =
+        unsafe { ffi::tetra_build_control_uplink(a, blk1.len(), b, blk2.len(), out, CUB_BITS) };
     Refusal::none(refusal).map(|()| bits)
 }

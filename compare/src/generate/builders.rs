@@ -41,7 +41,7 @@ pub fn line(random: &mut Random) -> String {
 }
 
 /// A block: random, all alike, alternating, or with a single bit that differs.
-fn content(random: &mut Random, length: usize) -> Vec<u8> {
+pub fn content(random: &mut Random, length: usize) -> Vec<u8> {
     let bit = random.below(2) as u8;
     match random.below(5) {
         0 => vec![bit; length],

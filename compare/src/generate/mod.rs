@@ -4,6 +4,7 @@ mod builders;
 mod corners;
 mod filter;
 mod finder;
+mod handset;
 mod malformed;
 pub mod random;
 mod receiver;
@@ -32,6 +33,7 @@ pub fn lines(kind: &str, seed: u64) -> Option<Lines> {
         "timing" => endless(own, corners::timing),
         "filter" => Box::new(filter::lines(own)),
         "finder" => Box::new(finder::lines(own)),
+        "handset" => Box::new(handset::lines(own)),
         "sender" => Box::new(sender::lines(own)),
         _ => receiver::lines(kind, own)?,
     };

@@ -4,7 +4,9 @@ mod judge;
 mod sender;
 mod state;
 
+pub use builder::tetra_build_control_uplink;
 pub use builder::tetra_build_normal;
+pub use builder::tetra_build_normal_uplink;
 pub use builder::tetra_build_sync;
 pub use judge::tetra_judge;
 pub use sender::TetraSender;

@@ -19,6 +19,15 @@ pub(crate) fn refused(number: u32) -> Text {
     with_number(Text::new().append(b"refused"), number as u64).append(b"\n")
 }
 
+// The answer of a builder, of which there are a refusal or a burst's bits.
+pub(crate) fn burst(refusal: u32, bits: &[u8]) -> Text {
+    if refusal == 0 {
+        Text::new().append(b"burst ").bits(bits).append(b"\n")
+    } else {
+        refused(refusal)
+    }
+}
+
 // The text with the bit pattern of a float behind it, 8 hexadecimal digits.
 fn with_float(text: Text, x: f32) -> Text {
     let mut digits = [0u8; 16];

@@ -1,5 +1,6 @@
 // The fields of a line, which are parted by one space, and the numbers, samples and bits that they hold.
 use crate::input::Block;
+use crate::input::add;
 use dsp_types::ComplexSample;
 use dsp_types::SampleCount;
 
@@ -202,4 +203,52 @@ pub(crate) fn has_digits(line: &[u8], k: usize) -> bool {
 pub(crate) fn bits<'a>(line: &[u8], values: &'a Block, k: usize) -> &'a [u8] {
     let from = std::num::wrapping_add_usize(start_of(line, k), 1);
     text::front(block_text::behind(values, from), digits(line, k).len())
+}
+
+fn are_hex_digits(text: &[u8]) -> bool {
+    let mut is_good = true;
+    for i in 0..text.len() {
+        is_good = is_good & (digit_of(text[i]) < 16);
+    }
+    is_good
+}
+
+fn is_hex(line: &[u8], k: usize) -> bool {
+    check::same(text::front(field(line, k), 1), b"#")
+}
+
+// Whether field k is `=` and digits, or `#` and pairs of hexadecimal digits.
+pub(crate) fn has_bytes(line: &[u8], k: usize) -> bool {
+    if is_hex(line, k) {
+        let text = digits(line, k);
+        (text.len() % 2 == 0) & are_hex_digits(text)
+    } else {
+        has_digits(line, k)
+    }
+}
+
+// Puts the byte of each pair of hexadecimal digits into a block, from a place on.
+fn put_pairs(block: &mut Block, at: usize, text: &[u8]) {
+    for i in 0..text.len() / 2 {
+        let byte = digit_of(text[2 * i]) << 4 | digit_of(text[2 * i + 1]);
+        add(block, std::num::wrapping_add_usize(at, i), byte);
+    }
+}
+
+// Puts the bytes of field k, where its digits are hexadecimal, in the place of the digits' values.
+pub(crate) fn put_bytes(line: &[u8], values: &mut Block, k: usize) {
+    if is_hex(line, k) {
+        let at = std::num::wrapping_add_usize(start_of(line, k), 1);
+        put_pairs(values, at, digits(line, k));
+    }
+}
+
+// The bytes of field k, where the block has those of the whole line.
+pub(crate) fn bytes<'a>(line: &[u8], values: &'a Block, k: usize) -> &'a [u8] {
+    let all = bits(line, values, k);
+    if is_hex(line, k) {
+        text::front(all, all.len() / 2)
+    } else {
+        all
+    }
 }

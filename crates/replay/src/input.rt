@@ -37,7 +37,7 @@ fn byte_at(block: &Block, at: usize) -> u8 {
 }
 
 // Adds a byte to a line of that length. A length of 65,537 stands for every longer line.
-fn add(line: &mut Block, len: usize, byte: u8) -> usize {
+pub(crate) fn add(line: &mut Block, len: usize, byte: u8) -> usize {
     if len < 65536 {
         line[len] = byte;
         len + 1

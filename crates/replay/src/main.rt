@@ -10,6 +10,7 @@ mod output;
 mod receivers;
 mod session;
 mod stateless;
+mod uplink;
 
 use demodulator::Demodulator;
 use input::Input;
@@ -77,7 +78,10 @@ line that is no call prints error and changes nothing.
   w COUNTER SLOT BITS    one sent sample; bits - for a slot without a burst
   j KIND LENGTH BITS     the call logger's judgement of a window's bits
   b LETTER BITS          a burst from its blocks
-Bits are = and a digit for each. docs/REPLAY.md has the whole format.
+  u SEQ BYTES BYTES      a normal uplink burst from its blocks
+  c BYTES BYTES          a control uplink burst from its blocks
+Bits are = and a digit for each; bytes are bits, or # and two hexadecimal digits
+for each. docs/REPLAY.md has the whole format.
 
   --help      this text
   --version   the version

@@ -134,7 +134,7 @@ impl Session {
         }
         Step {
             session: self,
-            answer: stateless::answer(line, &values),
+            answer: stateless::answer(line, &mut values),
         }
     }
 }

@@ -1,4 +1,5 @@
 // The calls that work on nothing that is kept: burst builders, the logger's call, magnitude and quarter turns.
+use crate::answer;
 use crate::answer::error;
 use crate::answer::float;
 use crate::answer::refused;
@@ -14,8 +15,8 @@ use crate::field::narrow;
 use crate::field::number;
 use crate::field::sample;
 use crate::input::Block;
+use crate::uplink;
 use magnitude::magnitude;
-use slotter::Answer;
 use slotter::Burst;
 use slotter::build_ndb;
 use slotter::build_sdb;
@@ -23,12 +24,8 @@ use text::Text;
 use timing::quarter_turns;
 
 fn built(burst: Burst) -> Text {
-    let answer = burst.answer;
     let bits = burst.bits;
-    match answer {
-        Answer::Built(_, _) => Text::new().append(b"burst ").bits(&bits).append(b"\n"),
-        Answer::Refused(number) => refused(number),
-    }
+    answer::burst(burst.number(), &bits)
 }
 
 fn is_letter(byte: u8) -> bool {
@@ -113,30 +110,40 @@ fn on_sample(line: &[u8]) -> Text {
     }
 }
 
-fn of_three(line: &[u8]) -> Text {
-    if letter(line, 0) == b'b' {
-        return build_joined(line);
+fn of_three(line: &[u8], values: &mut Block) -> Text {
+    match letter(line, 0) {
+        b'b' => build_joined(line),
+        b'c' => uplink::build_control(line, values),
+        _ => {
+            if is_sample(line, 1) {
+                on_sample(line)
+            } else {
+                error()
+            }
+        }
     }
-    if is_sample(line, 1) {
-        on_sample(line)
-    } else {
-        error()
+}
+
+fn of_four(line: &[u8], values: &mut Block) -> Text {
+    match letter(line, 0) {
+        b'j' => judge(line, &*values),
+        b'u' => uplink::build_normal(line, values),
+        _ => error(),
     }
 }
 
 // The answer to a line, of which the block has the digits' values. What is no call is answered by `error`.
-pub(crate) fn answer(line: &[u8], values: &Block) -> Text {
-    let name = letter(line, 0);
-    let count = count(line);
-    if count == 3 {
-        return of_three(line);
-    }
-    if (count == 4) & (name == b'j') {
-        return judge(line, values);
-    }
-    if (count == 5) & (name == b'd') {
-        build(line, values)
-    } else {
-        error()
+pub(crate) fn answer(line: &[u8], values: &mut Block) -> Text {
+    match count(line) {
+        3 => of_three(line, values),
+        4 => of_four(line, values),
+        5 => {
+            if letter(line, 0) == b'd' {
+                build(line, &*values)
+            } else {
+                error()
+            }
+        }
+        _ => error(),
     }
 }
