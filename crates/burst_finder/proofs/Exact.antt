@@ -9,7 +9,7 @@ use lib.Seq.{slice, take-add, drop-at, length-take-le}
 use borrow.Author.Tests.{eq-eqb}
 use Rattle.burst_finder.specs.declared.Found.{Found}
 use Rattle.burst_finder.specs.Search.{hammingDistance, errorsAt, best}
-use Rattle.burst_finder.specs.Exact.{Earlier, Earliest}
+use Rattle.burst_finder.specs.Exact.{Earliest}
 use Rattle.burst_finder.proofs.Distance.{distance-take}
 use Rattle.burst_finder.proofs.Best.{IsBest, is-best}
 

@@ -1,16 +1,14 @@
 -- A burst into lent bytes: the copy, and what a call returns and leaves. Assumes nothing.
 use mathlib.Core.Path.{_≡_, refl}
-use mathlib.Core.List.{List, [], _++_, append-nil}
+use mathlib.Core.List.{List, _++_, append-nil}
 use Prim.Native.Nat.{ℕ, zero, suc, _≤_}
 use native.Mathlib.Omega.{arith}
 use lib.ListN.{length, take, drop, drop-of-length-le}
 use lib.Seq.{take-all}
 use borrow.Author.Tests.{eq-eqb, ne-eqb}
 use Rattle.dsp_types.specs.Refusals.{wrongLength}
-use Rattle.slotter.specs.declared.uplink.UplinkAnswer.{UplinkAnswer}
-use Rattle.slotter.specs.declared.uplink.UplinkAnswer.the-variants.{Built, Refused}
 use Rattle.slotter.specs.Bursts.{BuilderReply}
-use Rattle.slotter.specs.Uplink.{UplinkReply, uplinkReply, uplinkNumber, uplinkBits}
+use Rattle.slotter.specs.Uplink.{UplinkReply, uplinkNumber, uplinkBits}
 use Rattle.modem.specs.Build.{lendRefusal, lentUnless, buildRefusal, lentBurst, uplinkRefusal, lentUplink}
 
 -- a copy of as many bytes as there are leaves none of those
@@ -70,14 +68,3 @@ module _ (m : ℕ) (reply : UplinkReply) (bits : List ℕ) {n number : ℕ} (l :
   pub uplink-left : {built : List ℕ} → built ≡ uplinkBits reply → lendLeaves n number built bits ≡ lentUplink m reply bits
   unfolding lentUplink
   uplink-left p = rw (uplink-refusal, p)
-
--- an uplink answer's number is the same beside any bits, and its bits are those beside it
-pub told-number : (answer : UplinkAnswer) (bits : List ℕ) → uplinkNumber (uplinkReply answer []) ≡ uplinkNumber (uplinkReply answer bits)
-unfolding uplinkNumber uplinkReply
-told-number Built bits = refl
-told-number (Refused n) bits = refl
-
-pub told-uplink-bits : (answer : UplinkAnswer) (bits : List ℕ) → bits ≡ uplinkBits (uplinkReply answer bits)
-unfolding uplinkBits uplinkReply
-told-uplink-bits Built bits = refl
-told-uplink-bits (Refused n) bits = refl

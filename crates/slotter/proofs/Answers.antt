@@ -12,7 +12,7 @@ use Rattle.slotter.specs.declared.uplink.UplinkAnswer.the-variants as up
 use Rattle.train_consts.specs.Training.{normal3}
 use Rattle.slotter.specs.Phases.{phaseSum, adjustment}
 use Rattle.slotter.specs.Bursts.{firstWindow, lastWindow, downlink, BuilderReply, builderReply, refusal, burstUnless}
-use Rattle.slotter.specs.Uplink.{UplinkReply, refused, uplinkReply, uplinkUnless, uplinkNumber, uplinkBits}
+use Rattle.slotter.specs.Uplink.{refused, uplinkReply, uplinkUnless, uplinkNumber, uplinkBits}
 
 -- ---- `builderReply` tells all answers apart
 

@@ -1,13 +1,13 @@
 -- A window with a burst in it, as the code's loop writes it bit by bit, and what stands in it: for any window, offset and burst.
-use mathlib.Core.Path.{_≡_, refl, sym, ap, _∙_}
-use mathlib.Core.List.{List, _++_, append-nil, append-assoc}
+use mathlib.Core.Path.{_≡_, sym, _∙_}
+use mathlib.Core.List.{List, _++_, append-nil}
 use Prim.Native.Nat.{ℕ, suc, _+_, _-_, _≤_, _<_}
 use native.Mathlib.Nat.{zero-add}
 use native.Mathlib.Numerals.{add-one}
 use native.Mathlib.Omega.{arith}
 use native.Mathlib.Decide.{decLe}
 use lib.ListN.{length, take, drop, getD, set, replicate, length-append, length-replicate, getD-replicate, drop-of-length-le, List·getD-append, List·getD-eq-default}
-use lib.Seq.{paste-suc, getD-append-add, take-append-le, take-append-add, length-take-le}
+use lib.Seq.{paste-suc, getD-append-add, take-append-add, length-take-le}
 use Rattle.slotter.specs.Uplink.{placed}
 
 -- one element more of s stands in d

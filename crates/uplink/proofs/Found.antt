@@ -1,16 +1,12 @@
 -- Every burst that a builder makes is found where it was placed: its training sequence stands there with no bit wrong, and the earliest such placing is the best.
 -- One law over the type, the sequence and the placing; then the two kinds of burst.
-use mathlib.Core.Path.{_≡_, refl, sym, ap, subst, _∙_}
-use mathlib.Core.Bool.{cond}
+use mathlib.Core.Path.{_≡_, refl, ap, subst, _∙_}
 use mathlib.Core.List.{List, _++_, append-assoc}
 use Prim.Native.Nat.{ℕ, _+_, _-_, _*_, _≤_, _<_}
 use native.Mathlib.Omega.{arith}
 use native.Mathlib.Decide.{decLe}
-use lib.Dec.{eqb}
 use lib.ListN.{length, take, replicate, length-append, length-replicate}
-use lib.Seq.{slice}
 use borrow.Author.Tests.{le-leb, lt-leb, lt-ltb}
-use Rattle.dsp_types.specs.Refusals.{accepted}
 use Rattle.train_consts.specs.Training.{normal1, normal2, extended, tail}
 use Rattle.burst_finder.specs.declared.Found.{Found}
 use Rattle.burst_finder.specs.declared.Finding.{Finding}
@@ -18,15 +14,13 @@ use Rattle.burst_finder.specs.declared.SlotType.the-variants.{UlFull, UlSub}
 use Rattle.burst_finder.specs.declared.TrainingSequence.{TrainingSequence}
 use Rattle.burst_finder.specs.declared.TrainingSequence.the-variants.{NormalTrainSeq1, NormalTrainSeq2, ExtendedTrainSeq}
 use Rattle.burst_finder.specs.Search.{errorsAt, placings, best}
-use Rattle.burst_finder.specs.Exact.{Earlier, Earliest}
 use Rattle.burst_finder.specs.Slots.{notFound, findingOf, checkSequence, orElse, checkNormal, checkSlot}
-use Rattle.burst_finder.proofs.Best.{IsBest, is-best, Stands, stands, accepts}
+use Rattle.burst_finder.proofs.Best.{IsBest, is-best, stands, accepts}
 use Rattle.burst_finder.proofs.Exact.{Reached, reached, exact-best, exact-at}
-use Rattle.slotter.specs.Bursts.{trainingOf}
 use Rattle.slotter.specs.Uplink.{uplink, placed}
-use Rattle.slotter.proofs.Placing.{placed-length, placed-whole}
+use Rattle.slotter.proofs.Placing.{placed-whole}
 use Rattle.slotter.proofs.Places.{at-place, uplink-length}
-use Rattle.uplink.specs.Placed.{burstAt, ReportedEarlier, Reported, TriedBefore, ReportedBefore, NormalReported, ControlReported}
+use Rattle.uplink.specs.Placed.{burstAt, Reported, TriedBefore, ReportedBefore, ControlReported}
 
 tail-length : length tail ≡ 4
 unfolding tail

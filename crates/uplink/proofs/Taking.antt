@@ -1,29 +1,25 @@
 -- A sample that closes an uplink window, and the take after it: the slot's three views are those of its windows' bits, and so a built burst among them is reported.
 use mathlib.Core.Path.{_≡_, refl, sym, ap, subst, _∙_}
-use mathlib.Core.Bool.{true, false}
+use mathlib.Core.Bool.{true}
 use mathlib.Core.List.{List, []}
 use Prim.Native.Nat.{ℕ, _*_, _≤_}
 use native.Mathlib.Omega.{arith}
 use lib.IntN.{ℤ}
 use lib.ListN.{length, getD}
-use borrow.Author.Tests.{eq-eqb}
 use Rattle.dsp_types.specs.declared.ComplexSample.{ComplexSample}
 use Rattle.dsp_types.specs.Refusals.{accepted, wrongLength}
-use Rattle.dsp_types.specs.Times.{slotOf}
 use Rattle.dsp_types.proofs.Laws.{slot-below}
-use Rattle.burst_finder.specs.declared.Finding.{Finding}
 use Rattle.burst_finder.specs.declared.SlotType.the-variants as SlotType
 use Rattle.burst_finder.specs.Slots.{checkSlot}
 use Rattle.listener.specs.Signal.{Signal, bitsOf, windowBits}
-use Rattle.rx_slot.specs.declared.RxBurst.{RxBurst}
 use Rattle.rx_slot.specs.declared.RxSlot.{RxSlot}
-use Rattle.rx_slot.specs.Views.{BurstView, viewOn, checked, burstShown, padded}
+use Rattle.rx_slot.specs.Views.{BurstView, viewOn, checked}
 use Rattle.rx_slot.specs.Slots.{HandedSlot, validSlot, shown, filled}
 use Rattle.slot_receiver.specs.declared.Mode.the-variants.{Ul}
 use Rattle.slot_receiver.specs.Receiver.{Receiver, withWaits, withSlot, withClock, withNext, accept, handOver, uplinkSlot, processPastSamples, nextSlot, schedule, processed, closeWindow, closeIf, arrive, processSample}
 use Rattle.slot_receiver.specs.Calls.{Reply, took, Outcome, unless, sampled, sampleOutcome, takeRefusal, taken, takeOutcome, inNumbers}
-use Rattle.slot_receiver.proofs.Taken.{Views, window-valid, valid-slot}
-use Rattle.slotter.specs.Uplink.{normalUplink, controlUplink, uplinkNumber}
+use Rattle.slot_receiver.proofs.Taken.{window-valid, valid-slot}
+use Rattle.slotter.specs.Uplink.{normalUplink, uplinkNumber}
 use Rattle.uplink.specs.Placed.{normalWindow, controlWindow, NormalReported, ControlReported}
 use Rattle.uplink.specs.Received.{takenAfter, heard, ClosesUplink, Took, ControlTaken, BurstsTaken}
 use Rattle.uplink.proofs.Judging.{normal-reported, normal-part, control-said, control-part}

@@ -1,10 +1,9 @@
 -- An uplink burst built, placed and judged: what the calls answer, and that it is reported (02, point 1). Definitions only.
 use mathlib.Core.Path.{_≡_}
-use mathlib.Core.List.{List, [], _∷_}
+use mathlib.Core.List.{List}
 use Prim.Native.Nat.{ℕ, _*_, _≤_}
 use lib.ListN.{replicate}
 use Rattle.dsp_types.specs.Refusals.{accepted}
-use Rattle.burst_finder.specs.declared.Finding.{Finding}
 use Rattle.burst_finder.specs.declared.SlotType.{SlotType}
 use Rattle.burst_finder.specs.declared.SlotType.the-variants.{UlFull, UlSub}
 use Rattle.burst_finder.specs.Slots.{checkSlot}

@@ -1,7 +1,5 @@
 -- `slotter::framed` meets its contract: its four copies are the law `frame`.
 use mathlib.Core.Path.{_≡_, refl}
-use native.Mathlib.Omega.{arith}
-use lib.Dec.{lit≤}
 use lib.ListN.{length, take, drop}
 use borrow.Author.Needs.{needs}
 use Rattle.train_consts.specs.Training.{normal3}

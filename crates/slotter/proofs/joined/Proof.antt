@@ -1,6 +1,5 @@
 -- `slotter::joined` meets its contract: its five copies are the law `five`.
 use mathlib.Core.Path.{refl, ap, _∙_}
-use native.Mathlib.Omega.{arith}
 use lib.ListN.{replicate}
 use borrow.Author.Needs.{needs}
 use Rattle.slotter.specs.Bursts.{burstUnless}

@@ -2,7 +2,8 @@
 use mathlib.Core.Path.{_≡_, ap, _∙_}
 use lib.ListN.{length}
 use Rattle.slotter.specs.Uplink.{uplinkNumber, uplinkBits}
-use Rattle.modem.proofs.Building.{uplink-refusal, uplink-left, told-number, told-uplink-bits}
+use Rattle.slotter.proofs.Answers.{told-uplink-number, told-uplink-bits}
+use Rattle.modem.proofs.Building.{uplink-refusal, uplink-left}
 use borrow.Author.Needs.{needs}
 use Rattle.modem.proofs.builder.tetra_build_normal_uplink.Statement.{statement}
 use Rattle.modem.proofs.builder.tetra_build_normal_uplink.Tie as tie
@@ -31,7 +32,7 @@ returns c =
     let n = l .before .before .before in
     let b = n .before .before in
     let bits = b .before .before .before .before .args .bits .now in
-    let e = n .number .ensures ∙ told-number _ _ ∙ ap uplinkNumber (b .build-nub .ensures) in
+    let e = n .number .ensures ∙ told-uplink-number _ _ ∙ ap uplinkNumber (b .build-nub .ensures) in
     let p = told-uplink-bits _ _ ∙ ap uplinkBits (b .build-nub .ensures) in
     (l .lend .ensures .0 ∙ uplink-refusal 462 _ bits (size b) e, l .lend .ensures .1 ∙ uplink-left 462 _ bits (size b) e p)
 

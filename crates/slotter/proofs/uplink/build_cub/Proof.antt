@@ -1,5 +1,5 @@
 -- `uplink::build_cub` meets its contract: the refusal is the definition's, and without one the blocks have their lengths.
-use mathlib.Core.Path.{refl, sym, _∙_}
+use mathlib.Core.Path.{sym, _∙_}
 use native.Mathlib.Omega.{arith}
 use borrow.Author.Needs.{needs}
 use Rattle.train_consts.specs.Training.{extended}

@@ -3,7 +3,7 @@ use mathlib.Core.Path.{_≡_, sym, ap, _∙_}
 use native.Mathlib.Omega.{arith}
 use lib.ListN.{length}
 use borrow.Author.Needs.{needs}
-use Rattle.slotter.specs.Bursts.{trainingRefusal, trainingOf}
+use Rattle.slotter.specs.Bursts.{trainingRefusal}
 use Rattle.slotter.specs.Uplink.{uplink, pairRefusal, normalUplink}
 use Rattle.slotter.proofs.Answers.{uplink-refuses, uplink-accepts}
 use Rattle.slotter.proofs.Fields.{training-length}
