@@ -6,4 +6,5 @@ pub mod Fields
 pub mod Refusal
 pub mod Placing
 pub mod Answers
+pub mod UplinkAnswers
 pub mod Places

@@ -18,7 +18,8 @@ use Rattle.slotter.proofs.Windows.{first-odd, last-odd}
 use Rattle.slotter.proofs.Folding.{adjustment-length}
 use Rattle.slotter.proofs.Fields.{training-length}
 use Rattle.slotter.proofs.Refusal.{right-lengths, right-pair}
-use Rattle.slotter.proofs.Answers.{burst-number, burst-bits, uplink-number, uplink-bits}
+use Rattle.slotter.proofs.Answers.{burst-number, burst-bits}
+use Rattle.slotter.proofs.UplinkAnswers.{uplink-number, uplink-bits}
 
 -- the law of a place: a field stands where what is before it ends
 pub at-place : (f e : ℕ) (l p s t : List ℕ) → l ≡ p ++ s ++ t → length p ≡ f → f + length s ≡ e → slice f e l ≡ s

@@ -21,7 +21,7 @@ use Rattle.logger.specs.Judge.{slotTypeOf, windowLength, wrongWindow, findingBy
 use Rattle.slotter.specs.Bursts.{trainingOf, trainingRefusal}
 use Rattle.slotter.specs.declared.uplink.UplinkAnswer.{UplinkAnswer}
 use Rattle.slotter.specs.Uplink.{uplink, pairRefusal, UplinkReply, uplinkReply, normalUplink, controlUplink, uplinkNumber, uplinkBits, placed}
-use Rattle.slotter.proofs.Answers.{uplink-number, uplink-bits, told-uplink-number, told-uplink-bits}
+use Rattle.slotter.proofs.UplinkAnswers.{uplink-number, uplink-bits, told-uplink-number, told-uplink-bits}
 use Rattle.slotter.proofs.Fields.{training-length}
 use Rattle.slotter.proofs.Placing.{placed-length, placed-whole}
 use Rattle.slotter.proofs.Places.{normal-uplink-places, control-uplink-places}

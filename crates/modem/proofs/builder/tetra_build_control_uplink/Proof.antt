@@ -2,7 +2,7 @@
 use mathlib.Core.Path.{_≡_, ap, _∙_}
 use lib.ListN.{length}
 use Rattle.slotter.specs.Uplink.{uplinkNumber, uplinkBits}
-use Rattle.slotter.proofs.Answers.{told-uplink-number, told-uplink-bits}
+use Rattle.slotter.proofs.UplinkAnswers.{told-uplink-number, told-uplink-bits}
 use Rattle.modem.proofs.Building.{uplink-refusal, uplink-left}
 use borrow.Author.Needs.{needs}
 use Rattle.modem.proofs.builder.tetra_build_control_uplink.Statement.{statement}

@@ -4,7 +4,7 @@ use native.Mathlib.Omega.{arith}
 use borrow.Author.Needs.{needs}
 use Rattle.train_consts.specs.Training.{extended}
 use Rattle.slotter.specs.Uplink.{controlUplink}
-use Rattle.slotter.proofs.Answers.{uplink-refuses, uplink-accepts}
+use Rattle.slotter.proofs.UplinkAnswers.{uplink-refuses, uplink-accepts}
 use Rattle.slotter.proofs.Refusal.{right-pair}
 use Rattle.slotter.proofs.uplink.build_cub.Statement.{statement}
 use Rattle.slotter.proofs.uplink.build_cub.Tie as tie

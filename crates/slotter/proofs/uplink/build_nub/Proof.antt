@@ -5,7 +5,7 @@ use lib.ListN.{length}
 use borrow.Author.Needs.{needs}
 use Rattle.slotter.specs.Bursts.{trainingRefusal}
 use Rattle.slotter.specs.Uplink.{uplink, pairRefusal, normalUplink}
-use Rattle.slotter.proofs.Answers.{uplink-refuses, uplink-accepts}
+use Rattle.slotter.proofs.UplinkAnswers.{uplink-refuses, uplink-accepts}
 use Rattle.slotter.proofs.Fields.{training-length}
 use Rattle.slotter.proofs.Refusal.{right-pair}
 use Rattle.slotter.proofs.uplink.build_nub.Statement.{statement}
