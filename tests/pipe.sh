@@ -148,13 +148,13 @@ told "--uplink" "$locked$summary$up_summary"
 cat >"$work/want" <<'END'
 slot=0 link=up type=normal1 errors=0 half1_type=none half1_errors=100 half2_type=none half2_errors=100
 slot=1 link=up type=normal2 errors=0 half1_type=none half1_errors=100 half2_type=none half2_errors=100
-slot=2 link=up type=none errors=100 half1_type=none half1_errors=100 half2_type=none half2_errors=100
+slot=2 link=up type=normal1 errors=0 half1_type=none half1_errors=100 half2_type=none half2_errors=100
 slot=3 link=up type=none errors=100 half1_type=extended half1_errors=0 half2_type=none half2_errors=100
-slot=4 link=up type=normal1 errors=0 half1_type=none half1_errors=100 half2_type=none half2_errors=100
+slot=4 link=up type=none errors=100 half1_type=none half1_errors=100 half2_type=none half2_errors=100
 slot=5 link=up type=none errors=100 half1_type=extended half1_errors=0 half2_type=extended half2_errors=0
-slot=6 link=up type=none errors=100 half1_type=none half1_errors=100 half2_type=none half2_errors=100
+slot=6 link=up type=none errors=100 half1_type=extended half1_errors=0 half2_type=none half2_errors=100
 slot=7 link=up type=normal2 errors=0 half1_type=extended half1_errors=0 half2_type=none half2_errors=100
-slot=8 link=up type=normal1 errors=0 half1_type=none half1_errors=100 half2_type=none half2_errors=100
+slot=8 link=up type=none errors=100 half1_type=extended half1_errors=0 half2_type=none half2_errors=100
 slot=9 link=up type=normal1 errors=0 half1_type=none half1_errors=100 half2_type=none half2_errors=100
 END
 cp "$work/out" "$work/both"
@@ -167,9 +167,26 @@ cut -d ' ' -f 1,2 "$work/both" | tail -n +2 | awk -F '[= ]' '{ print $2 + (NR % 
 for n in 2 3 4 5 6 7 8 9 10 11; do printf '%d\n%d\n' $n $n; done >"$work/want"
 wrote "the order of both links' lines" "$work/want"
 
+# Each burst of a handset comes back with its very bits: tail, block, training sequence, block, tail.
+extended=100111010000111010011101000011
+awk -v x=$extended '
+    BEGIN { sequence["uplink1"] = "1101000011101001110100"; sequence["uplink2"] = "0111101001000011011110"; sequence["control"] = x }
+    /^#/ { next }
+    $1 in sequence { half = length($3) / 2; print slot - 2, $1, "1100" substr($3, 1, half) sequence[$1] substr($3, half + 1) "1100" }
+    { slot++ }' examples/uplink.txt >"$work/want"
+[ "$(wc -l <"$work/want")" = 8 ] || fail "$(wc -l <"$work/want") lines of handsets"
+run --quiet --uplink "$work/up" "$work/sent"
+awk '
+    function value(field) { sub(/.*=/, "", field); return field }
+    $2 != "link=up" { next }
+    $5 ~ /^bits=/ { type = value($3); sub(/normal/, "uplink", type); print value($1), type, value($5) }
+    # Slot 5 is the burst of the downlink, and slot 7 is no control burst.
+    / half1_bits=/ && $1 !~ /=[57]$/ { for (i = 4; $i !~ /^half1_bits=/;) i++; print value($1), "control", value($i) }' "$work/out" >"$work/found"
+mv "$work/found" "$work/out"
+wrote "the bits received are not those that handsets sent" "$work/want"
+
 # The same samples as both, with the extended training sequence in block 1 of slot 3: the uplink's bits are those of the
 # downlink at the places where an uplink has its bursts.
-extended=100111010000111010011101000011
 awk -v x=$extended '!/^#/ && ++n == 4 { $2 = substr($2, 1, 98) x substr($2, 129) } { print }' examples/bursts.txt |
     "$tx" >"$work/same"
 run --quiet --uplink "$work/same" "$work/same"
@@ -192,7 +209,8 @@ between 4000 6040 '\377' "$work/up" >"$work/holes"
 run --uplink "$work/holes" --no-bits "$work/sent"
 told "lost samples of the uplink" "${locked}tetra_rx: uplink: 2040 samples refused from 4000 to 6039, heard as zeros
 ${summary}tetra_rx: uplink: 10 slots, 2040 samples refused\n"
-[ "$(lines "$work/out" ' link=up type=none ')" = 4 ] || fail "lost samples of the uplink: $(lines "$work/out" ' link=up type=none ') slots without a burst"
+sed 's/^\(slot=[23] link=up\) .*/\1 type=none errors=100 half1_type=none half1_errors=100 half2_type=none half2_errors=100/' "$work/both" >"$work/want"
+wrote "lost samples of the uplink" "$work/want"
 samples 0 8000 "$work/up" >"$work/short"
 run --uplink "$work/short" --no-bits "$work/sent"
 told "an uplink that ends first" "${locked}tetra_rx: uplink: ends at sample 8000, zeros are heard behind it\n$summary$up_summary"
@@ -312,7 +330,36 @@ fi
 printf 'sync 01\r\n\nnormal1 %0461d2\nnormal3\nempty\n' 0 | "$tx" >"$work/out" 2>"$work/err"
 told "bad lines" 'tetra_tx: line 1: sync takes 366 bits
 tetra_tx: line 3: a bit is neither 0 nor 1
-tetra_tx: line 4: not sync, normal1 or normal2 with bits, nor empty\n'
+tetra_tx: line 4: not sync, normal1, normal2, uplink1, uplink2 or control with bits, nor empty\n'
 [ "$(wc -c <"$work/out")" = $(((5 * 1020 - 16) * 8)) ] || fail "bad lines: $(wc -c <"$work/out") bytes"
+
+# The offset is judged first, then the number of bits, then the bits. Of a line only 512 bytes are kept.
+zeros=$(printf '%0432d' 0)
+shorter=$(printf '%0168d' 0)
+cat >"$work/bad" <<END
+uplink1 7 $zeros
+uplink2 50 2
+uplink1 100 $zeros
+uplink1 x4 $zeros
+control  0 $shorter
+uplink2 $zeros
+uplink1 48 ${zeros}0
+uplink2 24
+uplink1 24 $zeros$zeros
+control 0 2
+control 8 ${shorter}00
+uplink1 6 ${zeros%0}2
+control 6 x${shorter%0}
+uplink1 0 $zeros
+END
+"$tx" "$work/bad" >"$work/out" 2>"$work/err"
+{
+    for n in 1 2 3 4 5 6; do echo "tetra_tx: line $n: the offset is no even number from 0 to 48"; done
+    for n in 7 8 9; do echo "tetra_tx: line $n: an uplink burst takes 432 bits"; done
+    for n in 10 11; do echo "tetra_tx: line $n: a control burst takes 168 bits"; done
+    for n in 12 13; do echo "tetra_tx: line $n: a bit is neither 0 nor 1"; done
+} >"$work/want"
+cmp -s "$work/want" "$work/err" || fail "bad uplink lines: $(diff "$work/want" "$work/err" | head -n 5)"
+[ "$(wc -c <"$work/out")" = $(((15 * 1020 - 16) * 8)) ] || fail "bad uplink lines: $(wc -c <"$work/out") bytes"
 
 echo "pipe: the bursts sent are the bursts received, of both links"

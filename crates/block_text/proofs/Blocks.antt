@@ -8,7 +8,9 @@ use lib.Dec.{eqb}
 use lib.ListN.{length, take, drop, length-map}
 use borrow.Author.Tests.{eq-eqb, ne-eqb}
 use Rattle.slotter.specs.Bursts.{syncBurst, normalBurst}
+use Rattle.slotter.specs.Uplink.{normalUplink, controlUplink}
 use Rattle.block_text.specs.BlockText.{wanted, characterBit, burstOf}
+use Rattle.block_text.specs.UplinkLines.{uplinkWanted, uplinkBurst}
 use Rattle.block_text.proofs.Characters.{part, rest}
 
 pub wanted-most : (type : ℕ) → wanted type ≤ 462
@@ -34,3 +36,28 @@ normal-blocks type cs z k n e =
     let M : List ℕ = map characterBit cs in
     let l : length M ≡ 462 = length-map cs characterBit ∙ (rw (ne-eqb type 4 k) at n) in
     rw (e, ne-eqb type 4 k, part M z 0 216 (omega arith), part M z 216 30 (omega arith), rest M z 246 216 (omega arith))
+
+-- ---- an uplink's burst
+
+pub uplink-most : (type : ℕ) → uplinkWanted type ≤ 432
+unfolding uplinkWanted
+uplink-most type = go (eqb type 3)
+  where
+    go : (b : Bool) → cond b 168 432 ≤ 432
+    go true = omega arith
+    go false = omega arith
+
+module _ {w : List ℕ} (type : ℕ) (cs z : List ℕ) (n : length cs ≡ uplinkWanted type) (e : w ≡ map characterBit cs ++ z) where
+  pub control-blocks : type ≡ 3 → controlUplink (take 84 w) (take 84 (drop 84 w)) ≡ uplinkBurst type (map characterBit cs)
+  unfolding uplinkWanted uplinkBurst
+  control-blocks k =
+      let M : List ℕ = map characterBit cs in
+      let l : length M ≡ 168 = length-map cs characterBit ∙ (rw (eq-eqb type 3 k) at n) in
+      rw (e, eq-eqb type 3 k, part M z 0 84 (omega arith), rest M z 84 84 (omega arith))
+
+  pub uplink-blocks : (type ≡ 3 → ⊥) → normalUplink type (take 216 w) (take 216 (drop 216 w)) ≡ uplinkBurst type (map characterBit cs)
+  unfolding uplinkWanted uplinkBurst
+  uplink-blocks k =
+      let M : List ℕ = map characterBit cs in
+      let l : length M ≡ 432 = length-map cs characterBit ∙ (rw (ne-eqb type 3 k) at n) in
+      rw (e, ne-eqb type 3 k, part M z 0 216 (omega arith), rest M z 216 216 (omega arith))

@@ -3,11 +3,11 @@ use mathlib.Core.Path.{_≡_, sym, ap, _∙_}
 use mathlib.Core.Bool.{Bool, _||_, or-assoc, or-false}
 use mathlib.Core.List.{List, _++_, map}
 use Prim.Native.Nat.{ℕ, suc, _+_, _≤_, _<_}
-use native.Mathlib.Nat.{zero-add}
 use native.Mathlib.Numerals.{add-one}
 use native.Mathlib.Omega.{arith}
 use lib.ListN.{length, take, drop, getD, set, length-map, List·getD-map, drop-of-length-le, length-drop}
-use lib.Seq.{drop-cons, paste-suc, take-append-le, drop-append-le, take-all}
+use lib.Seq.{drop-cons, take-append-le, drop-append-le, take-all}
+use Rattle.slotter.proofs.Placing as Placing
 use Rattle.block_text.specs.BlockText.{notCharacter, notCharacters, characterBit}
 
 -- ---- one more character is looked at
@@ -23,17 +23,11 @@ no-more cs found i h e = sym (e ∙ rw (drop-of-length-le cs h) (or-false found)
 
 -- ---- the bits
 
-more : (d s : List ℕ) (i v : ℕ) → i < length d → i < length s → getD s i 0 ≡ v → set (take i s ++ drop i d) i v ≡ take (i + 1) s ++ drop (i + 1) d
-more d s i v h k e =
-    let z : 0 + i ≡ i = zero-add i in
-    let y : 0 + suc i ≡ suc i = zero-add (suc i) in
-    rw (← e, add-one i) (rw (z, y) at (paste-suc d 0 s i 0 (omega arith) k))
-
 pub bit-more : {w : List ℕ} {v : ℕ} (d cs : List ℕ) (i : ℕ) → w ≡ take i (map characterBit cs) ++ drop i d → v ≡ characterBit (getD cs i 0) → i < length d → i < length cs
     → set w i v ≡ take (i + 1) (map characterBit cs) ++ drop (i + 1) d
 unfolding characterBit
 bit-more d cs i e f h k =
-    rw (e, f) (more d (map characterBit cs) i (characterBit (getD cs i 0)) h (omega (arith, length-map cs characterBit)) (List·getD-map characterBit cs i 0))
+    rw (e, f) (Placing.one-more d (map characterBit cs) i (characterBit (getD cs i 0)) h (omega (arith, length-map cs characterBit)) (List·getD-map characterBit cs i 0))
 
 pub bit-none : (d cs : List ℕ) (i : ℕ) → i ≡ length cs → take i (map characterBit cs) ++ drop i d ≡ map characterBit cs ++ drop (length cs) d
 bit-none d cs i e = rw (e, take-all (length cs) (map characterBit cs) (omega (arith, length-map cs characterBit)))

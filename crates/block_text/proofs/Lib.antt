@@ -2,4 +2,5 @@ pub mod Characters
 pub mod Blocks
 mod Judged
 mod Words
+mod Offsets
 pub mod Kept

@@ -1,2 +1,3 @@
 pub mod BlockText
+pub mod UplinkLines
 pub mod Lines

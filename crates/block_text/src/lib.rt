@@ -1,6 +1,7 @@
 // Bursts from their blocks' bits written as characters, joined in burst order.
 mod line;
 mod slot;
+mod uplink;
 
 use dsp_types::ACCEPTED;
 use dsp_types::BAD_BIT;

@@ -3,7 +3,7 @@ ghost use mathlib.Core.Path.{_≡_};
 ghost use mathlib.Core.List.{List, _∷_, _++_};
 ghost use Prim.Native.Nat.{ℕ};
 ghost use lib.ListN.{length, take, drop};
-ghost use Rattle.block_text.specs.Lines.{startsWith, askedOf, asked, sentOf};
+ghost use Rattle.block_text.specs.Lines.{startsWith, askedOf, askedUplink, asked, sentOf};
 
 pub(crate) enum Asked {
     // An empty line, or a remark.
@@ -12,6 +12,8 @@ pub(crate) enum Asked {
     Empty,
     // A burst of that type, whose bits' characters stand behind so many bytes.
     Burst(u32, usize),
+    // An uplink's burst of that type, whose offset and bits' characters stand behind its word.
+    Uplink(u32),
     Unknown,
 }
 
@@ -35,6 +37,22 @@ pub fn behind(line: &[u8], at: usize) -> &[u8]
     }
 }
 
+fn read_uplink(line: &[u8]) -> Asked
+    ensures { λ r. ⌜ askedOf (now (line .entry)) r ≡ askedUplink (now (line .entry)) ⌝ }
+{
+    if starts_with(line, b"uplink1 ") {
+        return Asked::Uplink(1);
+    }
+    if starts_with(line, b"uplink2 ") {
+        return Asked::Uplink(2);
+    }
+    if starts_with(line, b"control ") {
+        Asked::Uplink(3)
+    } else {
+        Asked::Unknown
+    }
+}
+
 pub(crate) fn read(line: &[u8]) -> Asked
     ensures { λ r. ⌜ askedOf (now (line .entry)) r ≡ asked (now (line .entry)) ⌝ }
 {
@@ -54,10 +72,9 @@ pub(crate) fn read(line: &[u8]) -> Asked
         return Asked::Burst(2, 8);
     }
     if starts_with(line, b"empty") & (line.len() == 5) {
-        Asked::Empty
-    } else {
-        Asked::Unknown
+        return Asked::Empty;
     }
+    read_uplink(line)
 }
 
 // `push`, on the bytes as a slice.

@@ -3,6 +3,7 @@ use crate::answer;
 use crate::line::Asked;
 use crate::line::behind;
 use crate::line::read;
+use crate::uplink::uplink_slot;
 use dsp_types::ACCEPTED;
 use dsp_types::BAD_BIT;
 ghost use mathlib.Core.Path.{_≡_};
@@ -19,6 +20,10 @@ pub enum Complaint {
     // The characters are too few or too many.
     SyncLength,
     NormalLength,
+    UplinkLength,
+    ControlLength,
+    // The offset is no even number from 0 to 48.
+    Offset,
     // It asks for nothing that is known.
     Unknown,
 }
@@ -31,7 +36,7 @@ pub struct LineSlot {
     pub complaint: Complaint,
 }
 
-fn without_burst(is_sent: bool, complaint: Complaint) -> LineSlot
+pub(crate) fn without_burst(is_sent: bool, complaint: Complaint) -> LineSlot
     ensures slots { λ r. ⌜ slotsOf r ≡ cond «is_sent» ([] ∷ []) [] ⌝ }
     ensures complaint { λ r. ⌜ r .complaint ≡ complaint ⌝ }
 {
@@ -86,6 +91,7 @@ pub fn slot_of(line: &[u8]) -> LineSlot
         Asked::Nothing => without_burst(false, Complaint::None),
         Asked::Empty => without_burst(true, Complaint::None),
         Asked::Burst(burst_type, at) => burst_slot(burst_type, behind(line, at)),
+        Asked::Uplink(burst_type) => uplink_slot(burst_type, behind(line, 8)),
         Asked::Unknown => without_burst(true, Complaint::Unknown),
     }
 }

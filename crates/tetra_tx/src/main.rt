@@ -83,14 +83,23 @@ fn main() {
         b"tetra_tx",
         b"usage: tetra_tx [FILE] >samples.cf32
 
-Sends bursts of the TETRA downlink. Each line of the file, or of standard input,
-is a slot:
-  sync BITS      366 bits, the blocks of 120, 30 and 216 bits in burst order
-  normal1 BITS   462 bits, the blocks of 216, 30 and 216; training sequence 1
-  normal2 BITS   the same with training sequence 2
-  empty          no burst
-An empty line, or one that starts with #, is passed over. A line that is none
-of these is reported, and its slot is sent without a burst. A slot without a burst
+Sends bursts of a TETRA downlink, or of an uplink as a handset does. Each line
+of the file, or of standard input, is a slot:
+  sync BITS             366 bits, blocks of 120, 30 and 216 in burst order
+  normal1 BITS          462 bits, blocks of 216, 30 and 216; training sequence 1
+  normal2 BITS          the same with training sequence 2
+  uplink1 OFFSET BITS   a normal uplink burst: 432 bits, blocks of 216 and 216;
+                        training sequence 1
+  uplink2 OFFSET BITS   the same with training sequence 2
+  control OFFSET BITS   a control uplink burst: 168 bits, blocks of 84 and 84
+  empty                 no burst
+OFFSET, an even number from 0 to 48, is how many bits behind the slot's start an
+uplink burst stands; zeros are around it. A control burst stands in the first
+half of the slot: the second half's window starts 127.5 symbols after the
+first's, so that no offset puts a burst exactly there.
+
+An empty line, or one that starts with #, is passed over. A line that is none of
+these is reported, and its slot is sent without a burst. A slot without a burst
 follows the last one, so that a receiver sees its end.
 
 The output is raw samples, 72,000 a second: f32 re and im in turn, lowest byte

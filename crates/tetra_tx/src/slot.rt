@@ -17,7 +17,13 @@ fn complain(number: u64, complaint: Complaint) {
         Complaint::NotBits => print(number, b"a bit is neither 0 nor 1"),
         Complaint::SyncLength => print(number, b"sync takes 366 bits"),
         Complaint::NormalLength => print(number, b"a normal burst takes 462 bits"),
-        Complaint::Unknown => print(number, b"not sync, normal1 or normal2 with bits, nor empty"),
+        Complaint::UplinkLength => print(number, b"an uplink burst takes 432 bits"),
+        Complaint::ControlLength => print(number, b"a control burst takes 168 bits"),
+        Complaint::Offset => print(number, b"the offset is no even number from 0 to 48"),
+        Complaint::Unknown => print(
+            number,
+            b"not sync, normal1, normal2, uplink1, uplink2 or control with bits, nor empty",
+        ),
     }
 }
 

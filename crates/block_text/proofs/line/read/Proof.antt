@@ -65,12 +65,13 @@ returns-6 c =
     rw (no₂ (e₃ .before .before .before), no₃ e₃, no₄ e₄, no₅ e₅, ← c .before .starts-with5 .ensures, c .if6 .taken)
 
 returns-7 : tie.Need-returns-7
-unfolding asked askedOf ascii
+unfolding asked ascii
 returns-7 c =
-    let e₅ = c .before .before .before in
+    let e₆ = c .before in
+    let e₅ = e₆ .before .before .before in
     let e₄ = e₅ .before .before .before in
     let e₃ = e₄ .before .before .before in
-    rw (no₂ (e₃ .before .before .before), no₃ e₃, no₄ e₄, no₅ e₅, ← c .before .starts-with5 .ensures, c .if6 .left)
+    rw (no₂ (e₃ .before .before .before), no₃ e₃, no₄ e₄, no₅ e₅, ← e₆ .before .starts-with5 .ensures, e₆ .if6 .left) (c .read-uplink .ensures)
 
 pub read-spec : {M : Type 1} → statement M
 read-spec =
@@ -92,4 +93,5 @@ read-spec =
     (λ c. search needs)
     (λ c κs. search needs)
     returns-6
+    (λ c κs. search needs)
     returns-7)

@@ -7,9 +7,9 @@ use lib.ListN.{drop}
 use denote.Enum.Declared.{tagOf}
 use Rattle.block_text.specs.declared.line.Asked.{Asked}
 use Rattle.block_text.proofs.line.Asked.{the-type}
-use Rattle.block_text.specs.declared.line.Asked.the-variants.{Nothing, Empty, Burst, Unknown}
+use Rattle.block_text.specs.declared.line.Asked.the-variants.{Nothing, Empty, Burst, Uplink, Unknown}
 use Rattle.block_text.specs.BlockText.{answerOf}
-use Rattle.block_text.specs.Lines.{askedOf, asked, passed, empty, reported, answered, sentFor, slotsFor, complaintFor}
+use Rattle.block_text.specs.Lines.{uplink, askedOf, asked, passed, empty, reported, answered, sentFor, slotsFor, complaintFor}
 use borrow.Author.Needs.{needs}
 use Rattle.block_text.proofs.slot.slot_of.Statement.{statement}
 use Rattle.block_text.proofs.slot.slot_of.Tie as tie
@@ -40,6 +40,15 @@ behind-requires c κs = search needs
 burst-slot-requires : tie.Need-burst-slot-requires
 burst-slot-requires c κs = search needs
 
+enum-known-wish-2 : tie.Need-enum-known-wish-2
+enum-known-wish-2 c = search needs
+
+behind-requires-2 : tie.Need-behind-requires-2
+behind-requires-2 c κs = search needs
+
+uplink-slot-requires : tie.Need-uplink-slot-requires
+uplink-slot-requires c κs = search needs
+
 enum-told-3 : tie.Need-enum-told-3
 enum-told-3 c = search needs
 
@@ -53,6 +62,7 @@ module _ (line : List ℕ) where
   is-passed Nothing t e = ap sentFor e
   is-passed Empty t e = absurd (omega (arith, t))
   is-passed (Burst type place) t e = absurd (omega (arith, t))
+  is-passed (Uplink type) t e = absurd (omega (arith, t))
   is-passed Unknown t e = absurd (omega (arith, t))
 
   is-empty : (w : Asked) → tagOf the-type w ≡ 1 → askedOf line w ≡ asked line → empty ≡ sentFor (asked line)
@@ -60,19 +70,25 @@ module _ (line : List ℕ) where
   is-empty Nothing t e = absurd (omega (arith, t))
   is-empty Empty t e = ap sentFor e
   is-empty (Burst type place) t e = absurd (omega (arith, t))
+  is-empty (Uplink type) t e = absurd (omega (arith, t))
   is-empty Unknown t e = absurd (omega (arith, t))
 
-  is-reported : (w : Asked) → tagOf the-type w ≡ 3 → askedOf line w ≡ asked line → reported ≡ sentFor (asked line)
+  is-reported : (w : Asked) → tagOf the-type w ≡ 4 → askedOf line w ≡ asked line → reported ≡ sentFor (asked line)
   unfolding askedOf sentFor
   is-reported Nothing t e = absurd (omega (arith, t))
   is-reported Empty t e = absurd (omega (arith, t))
   is-reported (Burst type place) t e = absurd (omega (arith, t))
+  is-reported (Uplink type) t e = absurd (omega (arith, t))
   is-reported Unknown t e = ap sentFor e
 
   is-answered : {w : Asked} (type place : ℕ) → w ≡ Burst type place → askedOf line w ≡ asked line
       → answered type (answerOf type (drop place line)) ≡ sentFor (asked line)
   unfolding askedOf sentFor
   is-answered type place p e = ap sentFor (ap (askedOf line) (sym p) ∙ e)
+
+  is-uplink : {w : Asked} (type : ℕ) → w ≡ Uplink type → askedOf line w ≡ asked line → sentFor (uplink type (drop 8 line)) ≡ sentFor (asked line)
+  unfolding askedOf
+  is-uplink type p e = ap sentFor (ap (askedOf line) (sym p) ∙ e)
 
 returns : tie.Need-returns
 unfolding slotsFor complaintFor
@@ -99,10 +115,20 @@ returns-3 c =
     (c .burst-slot .ensures .0 ∙ ap slotsFor k, c .burst-slot .ensures .1 ∙ ap complaintFor k)
 
 returns-4 : tie.Need-returns-4
-unfolding slotsFor complaintFor
 returns-4 c =
+    let b = c .before in
+    let w = b .before .before in
+    let r = w .before .before in
+    let line = r .before .before .args .line .now in
+    let type = w .wish2 .given .0 .0 in
+    let k = ap (λ (text : List ℕ). sentFor (uplink type text)) (b .behind2 .ensures) ∙ is-uplink line type (w .wish2 .given .1) (r .read .ensures) in
+    (c .uplink-slot .ensures .0 ∙ ap slotsFor k, c .uplink-slot .ensures .1 ∙ ap complaintFor k)
+
+returns-5 : tie.Need-returns-5
+unfolding slotsFor complaintFor
+returns-5 c =
     let r = c .before .before .before in
-    let k = is-reported (r .before .before .args .line .now) (r .read .result) (c .before .before .match .keys4) (r .read .ensures) in
+    let k = is-reported (r .before .before .args .line .now) (r .read .result) (c .before .before .match .keys5) (r .read .ensures) in
     (c .without-burst3 .ensures .0 ∙ ap slotsFor k, c .without-burst3 .ensures .1 ∙ ap complaintFor k)
 
 pub slot-of-spec : {M : Type 1} → statement M
@@ -117,9 +143,13 @@ slot-of-spec =
     enum-known-wish
     behind-requires
     burst-slot-requires
+    enum-known-wish-2
+    behind-requires-2
+    uplink-slot-requires
     enum-told-3
     without-burst-requires-3
     returns
     returns-2
     returns-3
-    returns-4)
+    returns-4
+    returns-5)
