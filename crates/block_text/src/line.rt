@@ -91,7 +91,7 @@ fn push_in(line: &mut [u8], len: usize, byte: u8) -> usize
 }
 
 // Adds a byte to a line of which the first len bytes are kept, and tells how many are kept then: 512 at most. What the line
-// comes to is the same, whatever follows: a longer one is of no burst, or refused for its length.
+// comes to is the same, whatever follows: a longer one is of no burst, or refused for its offset or its length.
 pub fn push(line: &mut [u8; 512], len: usize, byte: u8) -> usize
     ensures { λ r. ⌜ ((t : List ℕ) → sentOf (take r (now (line .exit)) ++ t) ≡ sentOf (take len (now (line .entry)) ++ (byte ∷ t))) ⌝ }
 {
