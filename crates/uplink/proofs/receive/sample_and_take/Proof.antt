@@ -36,7 +36,7 @@ returns c =
     let next = taken .1 .0 ∙ ap (λ (r : Receiver). takeOutcome r (a .slot .now) (a .subslot1 .now) (a .subslot2 .now) .receiver) (heard .1 .0) in
     let lent = taken .1 .1 .0 ∙ ap (λ (r : Receiver). takeOutcome r (a .slot .now) (a .subslot1 .now) (a .subslot2 .now) .lent) (heard .1 .0) in
     let found = bursts-taken (viewOf (a .receiver)) (a .input) (a .counter .0) (a .slot .now) (a .subslot1 .now) (a .subslot2 .now) answer lent in
-    (heard .0, (answer, (next, (lent, found))))
+    (heard .0, (answer, (next, (lent, ((λ m n p q. taken .1 .1 .1 n q ∙ heard .1 .1 m p), found)))))
 
 pub sample-and-take-spec : {M : Type 1} → statement M
 sample-and-take-spec =
