@@ -13,40 +13,40 @@ use Rattle.dsp_types.specs.declared.ComplexSample.{ComplexSample}
 use Rattle.rx_slot.specs.declared.RxSlot.{RxSlot}
 use Rattle.slot_receiver.specs.declared.Mode.TheVariants.{DlUnsynchronized}
 use Rattle.rx_slot.specs.Slots.{HandedSlot}
-use Rattle.slot_receiver.specs.Receiver.{Receiver, new, validCount}
-use Rattle.slot_receiver.specs.Calls.{Reply, Outcome, unless, sampleRefusal, sampled, sampleOutcome, takeOutcome, followRefusal, followed, followOutcome, inNumbers}
+use Rattle.slot_receiver.specs.Receiver.{Receiver, new, valid_count}
+use Rattle.slot_receiver.specs.Calls.{Reply, Outcome, unless, sample_refusal, sampled, sample_outcome, take_outcome, follow_refusal, followed, follow_outcome, in_numbers}
 use Rattle.rx_slot.specs.Views.{padded}
-use Rattle.rx_slot.proofs.Laws.{padded-front}
+use Rattle.rx_slot.proofs.Laws.{padded_front}
 use Rattle.account.specs.CallList as CallList
-use Rattle.account.specs.CallList.{Call, sample, follow, outcome, after, answers, lentAfter}
-use Rattle.account.specs.Runs.{rowLength, lentBytes, call_of, calls_of, fewest, roomIn, callsIn, row_of, rows, bytes_of, bytesOfAll, Makes, Written, Ran}
+use Rattle.account.specs.CallList.{Call, sample, follow, outcome, after, answers, lent_after}
+use Rattle.account.specs.Runs.{row_length, lent_bytes, call_of, calls_of, fewest, room_in, calls_in, row_of, rows, bytes_of, bytes_of_all, Makes, Written, Ran}
 use Rattle.account.proofs.Demand.{demand3, throughout}
 use Rattle.account.proofs.Closings.{closings}
-use Rattle.account.proofs.Rows.{padded-none, padded-over, length-row, length-rows, length-bytes, length-all, behind}
+use Rattle.account.proofs.Rows.{padded_none, padded_over, length_row, length_rows, length_bytes, length_all, behind}
 
 -- ---- one call
 
 -- a lent slice: the first k of 1,024 bytes
-module _ (n k : ℕ) (bytes : List ℕ) (b : bytes ≡ padded 1024 (lentBytes n)) (e : k ≡ min n 1024) where
-  sized : length (lentBytes n) ≡ k
-  unfolding lentBytes
+module _ (n k : ℕ) (bytes : List ℕ) (b : bytes ≡ padded 1024 (lent_bytes n)) (e : k ≡ min n 1024) where
+  sized : length (lent_bytes n) ≡ k
+  unfolding lent_bytes
   sized = length-replicate {A = ℕ} (min n 1024) 7 ∙ sym e
 
-  few : length (lentBytes n) ≤ 1024
+  few : length (lent_bytes n) ≤ 1024
   few = rw (sized, e) (min-le_right n 1024)
 
-  pub lent : take k bytes ≡ lentBytes n
-  lent = rw (b, ← sized) (padded-front 1024 (lentBytes n) few)
+  pub lent : take k bytes ≡ lent_bytes n
+  lent = rw (b, ← sized) (padded_front 1024 (lent_bytes n) few)
 
   -- .. and what it is after the call, with what is behind it
   pub left : (after : List ℕ) → length after ≡ length (take k bytes) → after ++ drop k bytes ≡ padded 1024 after
-  left after h = rw (b, ← sized) (padded-over 1024 (lentBytes n) after few (h ∙ ap length lent))
+  left after h = rw (b, ← sized) (padded_over 1024 (lent_bytes n) after few (h ∙ ap length lent))
 
 pub together : {all x y z x' y' z' : List ℕ} → all ≡ x ++ (y ++ z) → x ≡ x' → y ≡ y' → z ≡ z' → all ≡ x' ++ (y' ++ z')
 together e p q t = e ∙ rw (p, q, t)
 
 pub takes : (r : Receiver) {v : Receiver} {told lent : List ℕ} {answer : Reply RxSlot} {s a b s₀ a₀ b₀ s' a' b' : List ℕ} → s ≡ s₀ → a ≡ a₀ → b ≡ b₀
-    → answer ≡ inNumbers (takeOutcome r s a b).reply → v ≡ (takeOutcome r s a b).receiver → s' ∷ a' ∷ b' ∷ [] ≡ (takeOutcome r s a b).lent
+    → answer ≡ in_numbers (take_outcome r s a b).reply → v ≡ (take_outcome r s a b).receiver → s' ∷ a' ∷ b' ∷ [] ≡ (take_outcome r s a b).lent
     → told ≡ row_of answer → lent ≡ padded 1024 s' ++ (padded 1024 a' ++ padded 1024 b') → Makes r (CallList.take s₀ a₀ b₀) v told lent
 unfolding outcome bytes_of
 takes r p q t e f g h l =
@@ -55,97 +55,97 @@ takes r p q t e f g h l =
 -- a call that lends nothing
 none_lent : replicate 3072 0 ≡ bytes_of []
 unfolding bytes_of
-none_lent = rw (padded-none 1024) (sym (ap (λ (l : List ℕ). replicate 1024 0 ++ l) (replicate-append-replicate {A = ℕ} 1024 1024 0) ∙ replicate-append-replicate {A = ℕ} 1024 2048 0))
+none_lent = rw (padded_none 1024) (sym (ap (λ (l : List ℕ). replicate 1024 0 ++ l) (replicate-append-replicate {A = ℕ} 1024 1024 0) ∙ replicate-append-replicate {A = ℕ} 1024 2048 0))
 
-unless-none : (k : ℕ) (r : Receiver) (o : Outcome) → o.lent ≡ [] → (unless k r [] o).lent ≡ []
+unless_none : (k : ℕ) (r : Receiver) (o : Outcome) → o.lent ≡ [] → (unless k r [] o).lent ≡ []
 unfolding unless
-unless-none zero r o e = e
-unless-none (suc k) r o e = refl
+unless_none zero r o e = e
+unless_none (suc k) r o e = refl
 
 pub samples : (r : Receiver) (x : ComplexSample) (c : ℤ) {v : Receiver} {told lent : List ℕ} {answer : Reply HandedSlot}
-    → answer ≡ (sampleOutcome r x c).reply → v ≡ (sampleOutcome r x c).receiver → told ≡ row_of (inNumbers answer) → lent ≡ replicate 3072 0 → Makes r (sample x c) v told lent
-unfolding outcome sampleOutcome sampled
+    → answer ≡ (sample_outcome r x c).reply → v ≡ (sample_outcome r x c).receiver → told ≡ row_of (in_numbers answer) → lent ≡ replicate 3072 0 → Makes r (sample x c) v told lent
+unfolding outcome sample_outcome sampled
 samples r x c e f h l =
     record {
       receiver = f;
-      tells = h ∙ ap (λ (a : Reply HandedSlot). row_of (inNumbers a)) e;
-      lends = l ∙ none_lent ∙ ap bytes_of (sym (unless-none (sampleRefusal (validCount r.next) x c) r (sampled r x c) refl));
+      tells = h ∙ ap (λ (a : Reply HandedSlot). row_of (in_numbers a)) e;
+      lends = l ∙ none_lent ∙ ap bytes_of (sym (unless_none (sample_refusal (valid_count r.next) x c) r (sampled r x c) refl));
     }
 
 pub follows : (r other : Receiver) {v : Receiver} {told lent : List ℕ} {answer : Reply HandedSlot}
-    → answer ≡ (followOutcome r other).reply → v ≡ (followOutcome r other).receiver → told ≡ row_of (inNumbers answer) → lent ≡ replicate 3072 0 → Makes r (follow other) v told lent
-unfolding outcome followOutcome followed
+    → answer ≡ (follow_outcome r other).reply → v ≡ (follow_outcome r other).receiver → told ≡ row_of (in_numbers answer) → lent ≡ replicate 3072 0 → Makes r (follow other) v told lent
+unfolding outcome follow_outcome followed
 follows r other e f h l =
     record {
       receiver = f;
-      tells = h ∙ ap (λ (a : Reply HandedSlot). row_of (inNumbers a)) e;
-      lends = l ∙ none_lent ∙ ap bytes_of (sym (unless-none (followRefusal r.mode) r (followed r other) refl));
+      tells = h ∙ ap (λ (a : Reply HandedSlot). row_of (in_numbers a)) e;
+      lends = l ∙ none_lent ∙ ap bytes_of (sym (unless_none (follow_refusal r.mode) r (followed r other) refl));
     }
 
-pub made_row : {r r' : Receiver} {c : Call} {told lent : List ℕ} → Makes r c r' told lent → length told ≡ rowLength
-made_row {r} {c = c} m = ap length m.tells ∙ length-row (inNumbers (outcome r c).reply)
+pub made_row : {r r' : Receiver} {c : Call} {told lent : List ℕ} → Makes r c r' told lent → length told ≡ row_length
+made_row {r} {c = c} m = ap length m.tells ∙ length_row (in_numbers (outcome r c).reply)
 
 pub made_bytes : {r r' : Receiver} {c : Call} {told lent : List ℕ} → Makes r c r' told lent → length lent ≡ 3072
-made_bytes {r} {c = c} m = ap length m.lends ∙ length-bytes (outcome r c).lent
+made_bytes {r} {c = c} m = ap length m.lends ∙ length_bytes (outcome r c).lent
 
 -- the call of a kind
 pub made : {r r' : Receiver} {c c' : Call} {told lent : List ℕ} → Makes r c r' told lent → c ≡ c' → Makes r c' r' told lent
 made m e = rw (← e) m
 
 module _ (other : Receiver) (x : ComplexSample) (c : ℤ) (slot subslot1 subslot2 : ℕ) where
-  pub is-sample : (kind : ℕ) {z : ℤ} → kind ≡ 0 → z ≡ c → sample x z ≡ call_of other kind x c slot subslot1 subslot2
+  pub is_sample : (kind : ℕ) {z : ℤ} → kind ≡ 0 → z ≡ c → sample x z ≡ call_of other kind x c slot subslot1 subslot2
   unfolding call_of
-  is-sample kind e t = rw (eq-eqb kind 0 e, t)
+  is_sample kind e t = rw (eq-eqb kind 0 e, t)
 
-  pub is-take : (kind : ℕ) → kind ≡ 1 → CallList.take (lentBytes slot) (lentBytes subslot1) (lentBytes subslot2) ≡ call_of other kind x c slot subslot1 subslot2
+  pub is_take : (kind : ℕ) → kind ≡ 1 → CallList.take (lent_bytes slot) (lent_bytes subslot1) (lent_bytes subslot2) ≡ call_of other kind x c slot subslot1 subslot2
   unfolding call_of
-  is-take kind e = rw (eq-eqb kind 1 e, ne_eqb kind 0 (λ z. omega (arith, e, z)))
+  is_take kind e = rw (eq-eqb kind 1 e, ne_eqb kind 0 (λ z. omega (arith, e, z)))
 
-  pub is-follow : (kind : ℕ) → (kind ≡ 0 → ⊥) → (kind ≡ 1 → ⊥) → follow other ≡ call_of other kind x c slot subslot1 subslot2
+  pub is_follow : (kind : ℕ) → (kind ≡ 0 → ⊥) → (kind ≡ 1 → ⊥) → follow other ≡ call_of other kind x c slot subslot1 subslot2
   unfolding call_of
-  is-follow kind e f = rw (ne_eqb kind 0 e, ne_eqb kind 1 f)
+  is_follow kind e f = rw (ne_eqb kind 0 e, ne_eqb kind 1 f)
 
 -- ---- a list of calls
 
-length-answers : (cs : List Call) → length (answers cs) ≡ length cs
+length_answers : (cs : List Call) → length (answers cs) ≡ length cs
 unfolding answers
-length-answers [] = refl
-length-answers (c ∷ cs) = ap suc (length-answers cs)
+length_answers [] = refl
+length_answers (c ∷ cs) = ap suc (length_answers cs)
 
-length-lent : (cs : List Call) → length (lentAfter cs) ≡ length cs
-unfolding lentAfter
-length-lent [] = refl
-length-lent (c ∷ cs) = ap suc (length-lent cs)
+length_lent : (cs : List Call) → length (lent_after cs) ≡ length cs
+unfolding lent_after
+length_lent [] = refl
+length_lent (c ∷ cs) = ap suc (length_lent cs)
 
 -- one call more is written behind the others
 module _ (c : Call) (cs : List Call) {r r' : Receiver} {row bytes told₀ told lent₀ lent : List ℕ} (w : Written cs r told₀ told lent₀ lent) (m : Makes r c r' row bytes) where
-  more-told : {told' : List ℕ} → told' ≡ take (rowLength * length cs) told ++ row ++ drop (rowLength * length cs + length row) told
-      → told' ≡ rows (answers (c ∷ cs)) ++ drop (rowLength * length (c ∷ cs)) told₀
+  more_told : {told' : List ℕ} → told' ≡ take (row_length * length cs) told ++ row ++ drop (row_length * length cs + length row) told
+      → told' ≡ rows (answers (c ∷ cs)) ++ drop (row_length * length (c ∷ cs)) told₀
   unfolding answers rows
-  more-told {told'} p =
-      let size : length row ≡ rowLength = made_row m in
-      let front : length (rows (answers cs)) ≡ rowLength * length cs = length-rows (answers cs) ∙ ap (λ (k : ℕ). rowLength * k) (length-answers cs) in
-      let is : row ≡ row_of (inNumbers (outcome (after cs) c).reply) = m.tells ∙ ap (λ (u : Receiver). row_of (inNumbers (outcome u c).reply)) w.receiver in
-      behind told₀ told told' (rows (answers cs)) row (rowLength * length cs) rowLength (rowLength * suc (length cs)) w.tells front size (omega arith) p
-      ∙ ap (λ (l : List ℕ). (rows (answers cs) ++ l) ++ drop (rowLength * suc (length cs)) told₀) is
+  more_told {told'} p =
+      let size : length row ≡ row_length = made_row m in
+      let front : length (rows (answers cs)) ≡ row_length * length cs = length_rows (answers cs) ∙ ap (λ (k : ℕ). row_length * k) (length_answers cs) in
+      let is : row ≡ row_of (in_numbers (outcome (after cs) c).reply) = m.tells ∙ ap (λ (u : Receiver). row_of (in_numbers (outcome u c).reply)) w.receiver in
+      behind told₀ told told' (rows (answers cs)) row (row_length * length cs) row_length (row_length * suc (length cs)) w.tells front size (omega arith) p
+      ∙ ap (λ (l : List ℕ). (rows (answers cs) ++ l) ++ drop (row_length * suc (length cs)) told₀) is
 
-  more-lent : {lent' : List ℕ} → lent' ≡ take (3072 * length cs) lent ++ bytes ++ drop (3072 * length cs + length bytes) lent
-      → lent' ≡ bytesOfAll (lentAfter (c ∷ cs)) ++ drop (3072 * length (c ∷ cs)) lent₀
-  unfolding lentAfter bytesOfAll
-  more-lent {lent'} p =
+  more_lent : {lent' : List ℕ} → lent' ≡ take (3072 * length cs) lent ++ bytes ++ drop (3072 * length cs + length bytes) lent
+      → lent' ≡ bytes_of_all (lent_after (c ∷ cs)) ++ drop (3072 * length (c ∷ cs)) lent₀
+  unfolding lent_after bytes_of_all
+  more_lent {lent'} p =
       let size : length bytes ≡ 3072 = made_bytes m in
-      let front : length (bytesOfAll (lentAfter cs)) ≡ 3072 * length cs = length-all (lentAfter cs) ∙ ap (λ (k : ℕ). 3072 * k) (length-lent cs) in
+      let front : length (bytes_of_all (lent_after cs)) ≡ 3072 * length cs = length_all (lent_after cs) ∙ ap (λ (k : ℕ). 3072 * k) (length_lent cs) in
       let is : bytes ≡ bytes_of (outcome (after cs) c).lent = m.lends ∙ ap (λ (u : Receiver). bytes_of (outcome u c).lent) w.receiver in
-      behind lent₀ lent lent' (bytesOfAll (lentAfter cs)) bytes (3072 * length cs) 3072 (3072 * suc (length cs)) w.lends front size (omega arith) p
-      ∙ ap (λ (l : List ℕ). (bytesOfAll (lentAfter cs) ++ l) ++ drop (3072 * suc (length cs)) lent₀) is
+      behind lent₀ lent lent' (bytes_of_all (lent_after cs)) bytes (3072 * length cs) 3072 (3072 * suc (length cs)) w.lends front size (omega arith) p
+      ∙ ap (λ (l : List ℕ). (bytes_of_all (lent_after cs) ++ l) ++ drop (3072 * suc (length cs)) lent₀) is
 
-  more : {told' lent' : List ℕ} → told' ≡ take (rowLength * length cs) told ++ row ++ drop (rowLength * length cs + length row) told
+  more : {told' lent' : List ℕ} → told' ≡ take (row_length * length cs) told ++ row ++ drop (row_length * length cs + length row) told
       → lent' ≡ take (3072 * length cs) lent ++ bytes ++ drop (3072 * length cs + length bytes) lent → Written (c ∷ cs) r' told₀ told' lent₀ lent'
   unfolding after
-  more p q = record { receiver = m.receiver ∙ ap (λ (u : Receiver). (outcome u c).receiver) w.receiver; tells = more-told p; lends = more-lent q }
+  more p q = record { receiver = m.receiver ∙ ap (λ (u : Receiver). (outcome u c).receiver) w.receiver; tells = more_told p; lends = more_lent q }
 
 none : (told lent : List ℕ) → Written [] (new DlUnsynchronized) told told lent lent
-unfolding after answers rows lentAfter bytesOfAll
+unfolding after answers rows lent_after bytes_of_all
 none told bytes = record { receiver = refl; tells = refl; lends = refl }
 
 -- what was written is what the account tells
@@ -154,31 +154,31 @@ ran cs {told = told} {lent = lent} w =
     record {
       written = w;
       closings = closings cs;
-      expected = λ u. w.tells ∙ ap (λ (l : List (Reply HandedSlot)). rows l ++ drop (rowLength * length cs) told) (demand3 cs u).answered;
-      filled = λ u. w.lends ∙ ap (λ (l : List (List (List ℕ))). bytesOfAll l ++ drop (3072 * length cs) lent) (demand3 cs u).fills;
+      expected = λ u. w.tells ∙ ap (λ (l : List (Reply HandedSlot)). rows l ++ drop (row_length * length cs) told) (demand3 cs u).answered;
+      filled = λ u. w.lends ∙ ap (λ (l : List (List (List ℕ))). bytes_of_all l ++ drop (3072 * length cs) lent) (demand3 cs u).fills;
       keeps = throughout cs;
     }
 
 -- slices of these lengths hold n calls, and there is room for them
 pub record Enough (kinds re im counters slot subslot1 subslot2 told lent n : ℕ) : Type 0 where
-  pub of-kinds : n ≤ kinds
-  pub of-re : n ≤ re
-  pub of-im : n ≤ im
-  pub of-counters : n ≤ counters
-  pub of-slot : n ≤ slot
-  pub of-subslot1 : n ≤ subslot1
-  pub of-subslot2 : n ≤ subslot2
-  pub of-told : rowLength * n ≤ told
-  pub of-lent : 3072 * n ≤ lent
+  pub of_kinds : n ≤ kinds
+  pub of_re : n ≤ re
+  pub of_im : n ≤ im
+  pub of_counters : n ≤ counters
+  pub of_slot : n ≤ slot
+  pub of_subslot1 : n ≤ subslot1
+  pub of_subslot2 : n ≤ subslot2
+  pub of_told : row_length * n ≤ told
+  pub of_lent : 3072 * n ≤ lent
 
 pub counted : {n room held r h : ℕ} → n ≡ min r h → r ≡ room → h ≡ held → n ≡ min room held
 counted e p q = e ∙ rw (p, q)
 
-pub enough : (kinds re im counters slot subslot1 subslot2 told lent n : ℕ) → n ≡ min (roomIn told lent) (fewest kinds re im counters slot subslot1 subslot2)
+pub enough : (kinds re im counters slot subslot1 subslot2 told lent n : ℕ) → n ≡ min (room_in told lent) (fewest kinds re im counters slot subslot1 subslot2)
     → Enough kinds re im counters slot subslot1 subslot2 told lent n
-unfolding fewest roomIn
+unfolding fewest room_in
 enough a b c d e f g told lent n p =
-    let room : ℕ = min (told / rowLength) (lent / 3072) in
+    let room : ℕ = min (told / row_length) (lent / 3072) in
     let h0 : n ≤ min a (min b (min c (min d (min e (min f g))))) = rw p (min-le_right room (min a (min b (min c (min d (min e (min f g))))))) in
     let r0 : n ≤ room = rw p (min-le_left room (min a (min b (min c (min d (min e (min f g))))))) in
     let h1 = le_trans h0 (min-le_right a (min b (min c (min d (min e (min f g)))))) in
@@ -186,25 +186,25 @@ enough a b c d e f g told lent n p =
     let h3 = le_trans h2 (min-le_right c (min d (min e (min f g)))) in
     let h4 = le_trans h3 (min-le_right d (min e (min f g))) in
     let h5 = le_trans h4 (min-le_right e (min f g)) in
-    let r1 = le_trans r0 (min-le_left (told / rowLength) (lent / 3072)) in
-    let r2 = le_trans r0 (min-le_right (told / rowLength) (lent / 3072)) in
+    let r1 = le_trans r0 (min-le_left (told / row_length) (lent / 3072)) in
+    let r2 = le_trans r0 (min-le_right (told / row_length) (lent / 3072)) in
     record {
-      of-kinds = le_trans h0 (min-le_left a _);
-      of-re = le_trans h1 (min-le_left b _);
-      of-im = le_trans h2 (min-le_left c _);
-      of-counters = le_trans h3 (min-le_left d _);
-      of-slot = le_trans h4 (min-le_left e _);
-      of-subslot1 = le_trans h5 (min-le_left f g);
-      of-subslot2 = le_trans h5 (min-le_right f g);
-      of-told = omega (arith, r1);
-      of-lent = omega (arith, r2);
+      of_kinds = le_trans h0 (min-le_left a _);
+      of_re = le_trans h1 (min-le_left b _);
+      of_im = le_trans h2 (min-le_left c _);
+      of_counters = le_trans h3 (min-le_left d _);
+      of_slot = le_trans h4 (min-le_left e _);
+      of_subslot1 = le_trans h5 (min-le_left f g);
+      of_subslot2 = le_trans h5 (min-le_right f g);
+      of_told = omega (arith, r1);
+      of_lent = omega (arith, r2);
     }
 
 module _ (other : Receiver) (kinds : List ℕ) (re im : List Float) (counters : List ℤ) (slot subslot1 subslot2 : List ℕ) where
-  length-calls : (n : ℕ) → length (calls_of other kinds re im counters slot subslot1 subslot2 n) ≡ n
+  length_calls : (n : ℕ) → length (calls_of other kinds re im counters slot subslot1 subslot2 n) ≡ n
   unfolding calls_of
-  length-calls zero = refl
-  length-calls (suc n) = ap suc (length-calls n)
+  length_calls zero = refl
+  length_calls (suc n) = ap suc (length_calls n)
 
   pub none_made : {r : Receiver} (told lent : List ℕ) → r ≡ new DlUnsynchronized → Written (calls_of other kinds re im counters slot subslot1 subslot2 0) r told told lent lent
   unfolding calls_of
@@ -213,16 +213,16 @@ module _ (other : Receiver) (kinds : List ℕ) (re im : List Float) (counters : 
   pub one_more : {r r' : Receiver} {row bytes told₀ told told' lent₀ lent lent' : List ℕ} (i : ℕ) {z : ℤ}
       → Written (calls_of other kinds re im counters slot subslot1 subslot2 i) r told₀ told lent₀ lent
       → Makes r (call_of other (get_or kinds i 0) (record { re = get_or re i nan; im = get_or im i nan }) z (get_or slot i 0) (get_or subslot1 i 0) (get_or subslot2 i 0)) r' row bytes
-      → z ≡ get_or counters i (pos 0) → told' ≡ take (rowLength * i) told ++ row ++ drop (rowLength * i + length row) told
+      → z ≡ get_or counters i (pos 0) → told' ≡ take (row_length * i) told ++ row ++ drop (row_length * i + length row) told
       → lent' ≡ take (3072 * i) lent ++ bytes ++ drop (3072 * i + length bytes) lent
       → Written (calls_of other kinds re im counters slot subslot1 subslot2 (i + 1)) r' told₀ told' lent₀ lent'
   unfolding calls_of
   one_more i w m e p q =
-      let n = length-calls i in
+      let n = length_calls i in
       rw (add-one i) (more _ (calls_of other kinds re im counters slot subslot1 subslot2 i) w (rw e at m) (rw n p) (rw n q))
 
   pub all_made : {r : Receiver} {told told' lent lent' : List ℕ} (i n room : ℕ) → Written (calls_of other kinds re im counters slot subslot1 subslot2 i) r told told' lent lent' → i ≡ n
       → n ≡ min room (fewest (length kinds) (length re) (length im) (length counters) (length slot) (length subslot1) (length subslot2))
-      → Ran (callsIn other kinds re im counters slot subslot1 subslot2 room) r told told' lent lent'
-  unfolding callsIn
+      → Ran (calls_in other kinds re im counters slot subslot1 subslot2 room) r told told' lent lent'
+  unfolding calls_in
   all_made i n room w e f = ran _ (rw (← f, ← e) w)

@@ -6,7 +6,7 @@ use Rattle.slot_receiver.specs.declared.Mode.TheVariants.{DlUnsynchronized}
 use Rattle.rx_slot.specs.Slots.{HandedSlot}
 use Rattle.slot_receiver.specs.Receiver.{Receiver, new}
 use Rattle.slot_receiver.specs.Windows.{Window}
-use Rattle.slot_receiver.specs.Calls.{Reply, Outcome, sampleOutcome, takeOutcome, followOutcome}
+use Rattle.slot_receiver.specs.Calls.{Reply, Outcome, sample_outcome, take_outcome, follow_outcome}
 
 -- a sample with its counter, a take with three lent slices, an order to follow another receiver
 pub data Call : Type 0 where
@@ -22,9 +22,9 @@ lent (follow other) = []
 
 -- what a call on a receiver comes to: its answer, the receiver after it, the windows that it closes and the lent slices after it
 unfoldable pub outcome : Receiver → Call → Outcome
-outcome r (sample x c) = sampleOutcome r x c
-outcome r (take s a b) = takeOutcome r s a b
-outcome r (follow other) = followOutcome r other
+outcome r (sample x c) = sample_outcome r x c
+outcome r (take s a b) = take_outcome r s a b
+outcome r (follow other) = follow_outcome r other
 
 -- ---- a list of calls from a new searching downlink receiver on
 
@@ -44,6 +44,6 @@ closed [] = []
 closed (c ∷ cs) = (outcome (after cs) c).windows ++ closed cs
 
 -- the slices that they lent, after each
-unfoldable pub lentAfter : List Call → List (List (List ℕ))
-lentAfter [] = []
-lentAfter (c ∷ cs) = (outcome (after cs) c).lent ∷ lentAfter cs
+unfoldable pub lent_after : List Call → List (List (List ℕ))
+lent_after [] = []
+lent_after (c ∷ cs) = (outcome (after cs) c).lent ∷ lent_after cs

@@ -24,21 +24,21 @@ unfoldable pub type_of : List ℕ → ℕ
 type_of bits = (checked SlotType.Dl bits).type
 
 -- a downlink slot with this number and this view, whose window closed at n: nothing is found in its halves
-unfoldable pub slotWith : Account → (n : ℕ) → BurstView → HandedSlot
-slotWith a n v = record { time = a.number; closingCounter = pos n; full = v; subslot1 = no_view; subslot2 = no_view }
+unfoldable pub slot_with : Account → (n : ℕ) → BurstView → HandedSlot
+slot_with a n v = record { time = a.number; closing_counter = pos n; full = v; subslot1 = no_view; subslot2 = no_view }
 
 -- the slot of a locked window's bits: with the burst view of that type
-unfoldable pub slotIn : Account → (n : ℕ) → (bits : List ℕ) → HandedSlot
-slotIn a n bits = slotWith a n (checked SlotType.Dl bits)
+unfoldable pub slot_in : Account → (n : ℕ) → (bits : List ℕ) → HandedSlot
+slot_in a n bits = slot_with a n (checked SlotType.Dl bits)
 
 -- "Type 0 is a miss; another type sets misses to 0."
-unfoldable pub nextMisses : (type misses : ℕ) → ℕ
-nextMisses zero m = suc m
-nextMisses (suc t) m = 0
+unfoldable pub next_misses : (type misses : ℕ) → ℕ
+next_misses zero m = suc m
+next_misses (suc t) m = 0
 
 -- "the next number, which then grows by 1, wrapping"
-unfoldable pub nextNumber : ℕ → ℕ
-nextNumber n = suc n % slots
+unfoldable pub next_number : ℕ → ℕ
+next_number n = suc n % slots
 
 -- ---- the account after a window that closed at n
 
@@ -57,9 +57,9 @@ handed a n bits kept gap =
     record {
       due = n + gap;
       locked = kept;
-      number = nextNumber a.number;
-      misses = nextMisses (type_of bits) a.misses;
-      windows = record { counter = n; kind = slot (slotIn a n bits) } ∷ a.windows;
+      number = next_number a.number;
+      misses = next_misses (type_of bits) a.misses;
+      windows = record { counter = n; kind = slot (slot_in a n bits) } ∷ a.windows;
     }
 
 -- from the account before the sample with the counter n, whose window, if one closes, has these bits, to the account after it
@@ -70,6 +70,6 @@ pub data Turn (a : Account) (n : ℕ) (bits : List ℕ) : Account → Type 0 whe
   stays : n ≡ a.due → a.locked ≡ false → (Holds bits → ⊥) → Turn a n bits (unfound a n)
   locks : (gap : ℕ) → n ≡ a.due → a.locked ≡ false → Holds bits → 4 ≤ gap → gap ≤ 516 → Turn a n bits (locked a n gap)
   -- "Locked: .. At 100 misses it is in search, due 400 later; else due 1,019 to 1,021 later."
-  hands : (gap : ℕ) → n ≡ a.due → a.locked ≡ true → nextMisses (type_of bits) a.misses < 100 → 1019 ≤ gap → gap ≤ 1021
+  hands : (gap : ℕ) → n ≡ a.due → a.locked ≡ true → next_misses (type_of bits) a.misses < 100 → 1019 ≤ gap → gap ≤ 1021
       → Turn a n bits (handed a n bits true gap)
-  loses : n ≡ a.due → a.locked ≡ true → nextMisses (type_of bits) a.misses ≡ 100 → Turn a n bits (handed a n bits false 400)
+  loses : n ≡ a.due → a.locked ≡ true → next_misses (type_of bits) a.misses ≡ 100 → Turn a n bits (handed a n bits false 400)

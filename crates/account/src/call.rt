@@ -2,7 +2,7 @@
 ghost use Rattle.std.specs.Prelude.{◌≡◌, ◌++◌, get_or};
 ghost use Rattle.demodulator.specs.View.{view_of};
 ghost use Rattle.account.specs.CallList.{take};
-ghost use Rattle.account.specs.Runs.{lentBytes, call_of, Makes};
+ghost use Rattle.account.specs.Runs.{lent_bytes, call_of, Makes};
 
 use crate::write::{ROW, answer_row, sevens, take_row, write_bytes};
 use demodulator::Demodulator;
@@ -27,7 +27,7 @@ fn take(
     told: &mut [u64; ROW],
     lent: &mut [u8; 3072],
 ) -> Demodulator
-    ensures { Makes (view_of receiver) (take (lentBytes slot) (lentBytes subslot1) (lentBytes subslot2)) (view_of result) told.new lent.new }
+    ensures { Makes (view_of receiver) (take (lent_bytes slot) (lent_bytes subslot1) (lent_bytes subslot2)) (view_of result) told.new lent.new }
 {
     let mut a = sevens(slot);
     let mut b = sevens(subslot1);

@@ -7,7 +7,7 @@ mod write;
 
 ghost use Rattle.std.specs.Prelude.{◌≡◌, length};
 ghost use Rattle.demodulator.specs.View.{view_of};
-ghost use Rattle.account.specs.Runs.{fewest, roomIn, callsIn, Ran};
+ghost use Rattle.account.specs.Runs.{fewest, room_in, calls_in, Ran};
 
 use call::one_call;
 use demodulator::Demodulator;
@@ -32,9 +32,9 @@ fn fewest(
 }
 
 // How many calls there is room for in so many numbers and so many bytes.
-#[tactic(auto, unfolding(crate::specs::Runs::roomIn))]
+#[tactic(auto, unfolding(crate::specs::Runs::room_in))]
 fn room(told: usize, lent: usize) -> usize
-    ensures { result ≡ roomIn told lent }
+    ensures { result ≡ room_in told lent }
 {
     least(told / ROW, lent / 3072)
 }
@@ -53,7 +53,7 @@ pub fn run_calls(
     told: &mut [u64],
     lent: &mut [u8],
 ) -> Demodulator
-    ensures { Ran (callsIn (view_of other) kinds.now re.now im.now counters.now slot.now subslot1.now subslot2.now (roomIn (length told.old) (length lent.old))) (view_of result) told.old told.new lent.old lent.new }
+    ensures { Ran (calls_in (view_of other) kinds.now re.now im.now counters.now slot.now subslot1.now subslot2.now (room_in (length told.old) (length lent.old))) (view_of result) told.old told.new lent.old lent.new }
 {
     let held = fewest(
         kinds.len(),

@@ -9,7 +9,7 @@ use lib.Dec.{eqb}
 use lib.ListN.{length, take, drop, get_or, drop_of_length-le}
 use lib.Seq.{drop-cons}
 use borrow.Author.Tests.{eq-eqb, ne_eqb}
-use Rattle.block_text.specs.UplinkLines.{first_word, afterWord, digitOf, offset_of, notOffset}
+use Rattle.block_text.specs.UplinkLines.{first_word, after_word, digit_of, offset_of, not_offset}
 
 -- ---- the search for the first blank: what is before it, and stands before i, is counted
 
@@ -21,9 +21,9 @@ module _ (text : List ℕ) (i : ℕ) (e : Counted text i) where
   unfolding first_word
   blank h b = let k = rw (drop-cons text i 0 h, eq-eqb (get_or text i 0) 32 b) at e in omega (arith, k)
 
-  pub no-blank : i < length text → (get_or text i 0 ≡ 32 → ⊥) → Counted text (i + 1)
+  pub no_blank : i < length text → (get_or text i 0 ≡ 32 → ⊥) → Counted text (i + 1)
   unfolding first_word
-  no-blank h b = let k = rw (drop-cons text i 0 h, ne_eqb (get_or text i 0) 32 b) at e in rw (add-one i) (omega (arith, k))
+  no_blank h b = let k = rw (drop-cons text i 0 h, ne_eqb (get_or text i 0) 32 b) at e in rw (add-one i) (omega (arith, k))
 
   pub no_more : i ≡ length text → length text ≡ length (first_word text)
   unfolding first_word
@@ -40,24 +40,24 @@ word (c ∷ text) = go (word text) (eqb c 32)
     go e true = refl
     go e false = ap (λ (l : List ℕ). c ∷ l) e
 
-pub rest : (text : List ℕ) → drop 1 (drop (length (first_word text)) text) ≡ afterWord text
-unfolding first_word afterWord
+pub rest : (text : List ℕ) → drop 1 (drop (length (first_word text)) text) ≡ after_word text
+unfolding first_word after_word
 rest [] = refl
 rest (c ∷ text) = go (rest text) (eqb c 32)
   where
-    go : drop 1 (drop (length (first_word text)) text) ≡ afterWord text → (b : Bool) → drop 1 (drop (length (cond b [] (c ∷ first_word text))) (c ∷ text)) ≡ cond b text (afterWord text)
+    go : drop 1 (drop (length (first_word text)) text) ≡ after_word text → (b : Bool) → drop 1 (drop (length (cond b [] (c ∷ first_word text))) (c ∷ text)) ≡ cond b text (after_word text)
     go e true = refl
     go e false = e
 
 -- ---- an offset, by the number of its digits
 
-pub one-digit : (w : List ℕ) → length w ≡ 1 → digitOf (get_or w 0 0) ≡ offset_of w
+pub one_digit : (w : List ℕ) → length w ≡ 1 → digit_of (get_or w 0 0) ≡ offset_of w
 unfolding offset_of
-one-digit [] h = absurd (omega arith)
-one-digit (c ∷ []) h = refl
-one-digit (c ∷ d ∷ w) h = absurd (omega arith)
+one_digit [] h = absurd (omega arith)
+one_digit (c ∷ []) h = refl
+one_digit (c ∷ d ∷ w) h = absurd (omega arith)
 
-pub two_digits : (w : List ℕ) → length w ≡ 2 → 10 * digitOf (get_or w 0 0) + digitOf (get_or w 1 0) ≡ offset_of w
+pub two_digits : (w : List ℕ) → length w ≡ 2 → 10 * digit_of (get_or w 0 0) + digit_of (get_or w 1 0) ≡ offset_of w
 unfolding offset_of
 two_digits [] h = absurd (omega arith)
 two_digits (c ∷ []) h = absurd (omega arith)
@@ -74,12 +74,12 @@ no_number (c ∷ d ∷ e ∷ w) h k = refl
 -- ---- a long text
 
 -- three bytes decide on the offset
-pub same-offset : (l r : List ℕ) → 3 ≤ length l → offset_of (first_word (l ++ r)) ≡ offset_of (first_word l)
+pub same_offset : (l r : List ℕ) → 3 ≤ length l → offset_of (first_word (l ++ r)) ≡ offset_of (first_word l)
 unfolding first_word offset_of
-same-offset [] r h = absurd (omega arith)
-same-offset (a ∷ []) r h = absurd (omega arith)
-same-offset (a ∷ b ∷ []) r h = absurd (omega arith)
-same-offset (a ∷ b ∷ c ∷ l) r h = go (eqb a 32) (eqb b 32) (eqb c 32)
+same_offset [] r h = absurd (omega arith)
+same_offset (a ∷ []) r h = absurd (omega arith)
+same_offset (a ∷ b ∷ []) r h = absurd (omega arith)
+same_offset (a ∷ b ∷ c ∷ l) r h = go (eqb a 32) (eqb b 32) (eqb c 32)
   where
     go : (x y z : Bool) → offset_of (cond x [] (a ∷ cond y [] (b ∷ cond z [] (c ∷ first_word (l ++ r))))) ≡ offset_of (cond x [] (a ∷ cond y [] (b ∷ cond z [] (c ∷ first_word l))))
     go true y z = refl
@@ -88,15 +88,15 @@ same-offset (a ∷ b ∷ c ∷ l) r h = go (eqb a 32) (eqb b 32) (eqb c 32)
     go false false false = refl
 
 -- behind an offset and its blank three bytes are missing at most
-pub left : (l : List ℕ) → 3 ≤ length l → notOffset (offset_of (first_word l)) ≡ false → length l ≤ 3 + length (afterWord l)
-unfolding first_word afterWord offset_of notOffset
+pub left : (l : List ℕ) → 3 ≤ length l → not_offset (offset_of (first_word l)) ≡ false → length l ≤ 3 + length (after_word l)
+unfolding first_word after_word offset_of not_offset
 left [] h e = absurd (omega arith)
 left (a ∷ []) h e = absurd (omega arith)
 left (a ∷ b ∷ []) h e = absurd (omega arith)
 left (a ∷ b ∷ c ∷ l) h e = go (eqb a 32) (eqb b 32) (eqb c 32) e
   where
-    go : (x y z : Bool) → notOffset (offset_of (cond x [] (a ∷ cond y [] (b ∷ cond z [] (c ∷ first_word l))))) ≡ false
-        → suc (suc (suc (length l))) ≤ 3 + length (cond x (b ∷ c ∷ l) (cond y (c ∷ l) (cond z l (afterWord l))))
+    go : (x y z : Bool) → not_offset (offset_of (cond x [] (a ∷ cond y [] (b ∷ cond z [] (c ∷ first_word l))))) ≡ false
+        → suc (suc (suc (length l))) ≤ 3 + length (cond x (b ∷ c ∷ l) (cond y (c ∷ l) (cond z l (after_word l))))
     go true y z e = omega arith
     go false true z e = omega arith
     go false false true e = omega arith

@@ -1,11 +1,11 @@
 -- What a line of `tetra_tx` asks for (man/tetra_tx.1). Definitions only.
 use Rattle.std.specs.Prelude.{ℕ, Bool, true, false, cond, ◌&&◌, ◌||◌, List, [], ◌∷◌, eqb, length, drop}
 use Rattle.text.specs.Text.{ascii, trimmed}
-use Rattle.dsp_types.specs.Refusals.{accepted, badBit, wrongLength}
+use Rattle.dsp_types.specs.Refusals.{accepted, bad_bit, wrong_length}
 use Rattle.slotter.specs.Bursts.{BuilderReply}
 use Rattle.block_text.specs.declared.line.Asked.{Asked}
-use Rattle.block_text.specs.BlockText.{notCharacters, answer_of}
-use Rattle.block_text.specs.UplinkLines.{first_word, afterWord, offset_of, notOffset, uplinkWanted, uplinkSlot}
+use Rattle.block_text.specs.BlockText.{not_characters, answer_of}
+use Rattle.block_text.specs.UplinkLines.{first_word, after_word, offset_of, not_offset, uplink_wanted, uplink_slot}
 use Rattle.block_text.specs.declared.line.Asked.TheVariants.{Nothing, Empty, Burst, Uplink, Unknown}
 use Rattle.block_text.specs.declared.slot.Complaint.{Complaint}
 use Rattle.block_text.specs.declared.slot.Complaint.TheVariants.{None, NotBits, SyncLength, NormalLength, UplinkLength, ControlLength, Offset}
@@ -27,26 +27,26 @@ asked_of line (Uplink type) = uplink type (drop 8 line)
 asked_of line Unknown = unknown
 
 -- a line starts with a word
-unfoldable pub startsWith : List ℕ → List ℕ → Bool
-startsWith [] line = true
-startsWith (w ∷ word) [] = false
-startsWith (w ∷ word) (b ∷ line) = eqb b w && startsWith word line
+unfoldable pub starts_with : List ℕ → List ℕ → Bool
+starts_with [] line = true
+starts_with (w ∷ word) [] = false
+starts_with (w ∷ word) (b ∷ line) = eqb b w && starts_with word line
 
 -- an uplink's burst: of type 1 or 2, its training sequence, or 3 for a control burst
-unfoldable pub askedUplink : List ℕ → Wish
-askedUplink line =
-    cond (startsWith (ascii "uplink1 ") line) (uplink 1 (drop 8 line))
-    (cond (startsWith (ascii "uplink2 ") line) (uplink 2 (drop 8 line))
-    (cond (startsWith (ascii "control ") line) (uplink 3 (drop 8 line)) unknown))
+unfoldable pub asked_uplink : List ℕ → Wish
+asked_uplink line =
+    cond (starts_with (ascii "uplink1 ") line) (uplink 1 (drop 8 line))
+    (cond (starts_with (ascii "uplink2 ") line) (uplink 2 (drop 8 line))
+    (cond (starts_with (ascii "control ") line) (uplink 3 (drop 8 line)) unknown))
 
 -- an empty line and a remark ask for nothing
 unfoldable pub asked : List ℕ → Wish
 asked line =
-    cond (eqb (length line) 0 || startsWith (ascii "#") line) none
-    (cond (startsWith (ascii "sync ") line) (burst 4 (drop 5 line))
-    (cond (startsWith (ascii "normal1 ") line) (burst 1 (drop 8 line))
-    (cond (startsWith (ascii "normal2 ") line) (burst 2 (drop 8 line))
-    (cond (startsWith (ascii "empty") line && eqb (length line) 5) silence (askedUplink line)))))
+    cond (eqb (length line) 0 || starts_with (ascii "#") line) none
+    (cond (starts_with (ascii "sync ") line) (burst 4 (drop 5 line))
+    (cond (starts_with (ascii "normal1 ") line) (burst 1 (drop 8 line))
+    (cond (starts_with (ascii "normal2 ") line) (burst 2 (drop 8 line))
+    (cond (starts_with (ascii "empty") line && eqb (length line) 5) silence (asked_uplink line)))))
 
 -- what a wish comes to: the blocks of a burst are answered, and an uplink's burst is refused or has a slot's bits
 pub data Sent : Type 0 where
@@ -56,49 +56,49 @@ pub data Sent : Type 0 where
   placed : List ℕ → Sent
 
 -- too few or too many bits of an uplink's burst of that type
-unfoldable pub lengthComplaint : ℕ → Complaint
-lengthComplaint type = cond (eqb type 3) ControlLength UplinkLength
+unfoldable pub length_complaint : ℕ → Complaint
+length_complaint type = cond (eqb type 3) ControlLength UplinkLength
 
 -- an uplink's burst: its offset is judged, then the number of its bits, then these
-unfoldable pub uplinkSent : (type offset : ℕ) → List ℕ → Sent
-uplinkSent type offset characters =
-    cond (notOffset offset) (refused Offset)
-    (cond (wrongLength (uplinkWanted type) characters) (refused (lengthComplaint type))
-    (cond (notCharacters characters) (refused NotBits) (placed (uplinkSlot type offset characters))))
+unfoldable pub uplink_sent : (type offset : ℕ) → List ℕ → Sent
+uplink_sent type offset characters =
+    cond (not_offset offset) (refused Offset)
+    (cond (wrong_length (uplink_wanted type) characters) (refused (length_complaint type))
+    (cond (not_characters characters) (refused NotBits) (placed (uplink_slot type offset characters))))
 
-unfoldable pub sentFor : Wish → Sent
-sentFor none = passed
-sentFor silence = empty
-sentFor (burst type characters) = answered type (answer_of type characters)
-sentFor (uplink type text) = uplinkSent type (offset_of (first_word text)) (afterWord text)
-sentFor unknown = reported
+unfoldable pub sent_for : Wish → Sent
+sent_for none = passed
+sent_for silence = empty
+sent_for (burst type characters) = answered type (answer_of type characters)
+sent_for (uplink type text) = uplink_sent type (offset_of (first_word text)) (after_word text)
+sent_for unknown = reported
 
 -- what a line comes to, of which one closing carriage return is dropped
-unfoldable pub sentOf : List ℕ → Sent
-sentOf line = sentFor (asked (trimmed 13 line))
+unfoldable pub sent_of : List ℕ → Sent
+sent_of line = sent_for (asked (trimmed 13 line))
 
 -- ---- what goes out for it, and what is said of it
 
 -- the slots that are sent, each with the bits of its burst: a slot without one has none
-unfoldable pub slotsFor : Sent → List (List ℕ)
-slotsFor passed = []
-slotsFor empty = [] ∷ []
-slotsFor reported = [] ∷ []
-slotsFor (answered type reply) = cond (eqb reply.number accepted) reply.bits [] ∷ []
-slotsFor (refused complaint) = [] ∷ []
-slotsFor (placed bits) = bits ∷ []
+unfoldable pub slots_for : Sent → List (List ℕ)
+slots_for passed = []
+slots_for empty = [] ∷ []
+slots_for reported = [] ∷ []
+slots_for (answered type reply) = cond (eqb reply.number accepted) reply.bits [] ∷ []
+slots_for (refused complaint) = [] ∷ []
+slots_for (placed bits) = bits ∷ []
 
 -- blocks of that type, answered with that number
-unfoldable pub complaintOf : ℕ → ℕ → Complaint
-complaintOf type number = cond (eqb number accepted) None (cond (eqb number badBit) NotBits (cond (eqb type 4) SyncLength NormalLength))
+unfoldable pub complaint_of : ℕ → ℕ → Complaint
+complaint_of type number = cond (eqb number accepted) None (cond (eqb number bad_bit) NotBits (cond (eqb type 4) SyncLength NormalLength))
 
-unfoldable pub complaintFor : Sent → Complaint
-complaintFor passed = None
-complaintFor empty = None
-complaintFor reported = Complaint.Unknown
-complaintFor (answered type reply) = complaintOf type reply.number
-complaintFor (refused complaint) = complaint
-complaintFor (placed bits) = None
+unfoldable pub complaint_for : Sent → Complaint
+complaint_for passed = None
+complaint_for empty = None
+complaint_for reported = Complaint.Unknown
+complaint_for (answered type reply) = complaint_of type reply.number
+complaint_for (refused complaint) = complaint
+complaint_for (placed bits) = None
 
 -- a slot as the code hands it on
 unfoldable pub slots_of : LineSlot → List (List ℕ)

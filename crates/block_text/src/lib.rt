@@ -6,8 +6,8 @@ mod slot;
 mod uplink;
 
 ghost use Rattle.std.specs.Prelude.{◌≡◌, ◌≤◌, ◌++◌, map, length, drop, replicate};
-ghost use Rattle.slotter.specs.Bursts.{builderReply};
-ghost use Rattle.block_text.specs.BlockText.{letterType, wanted, notCharacter, notCharacters, wrongCount, refusalOf, characterBit, burstOf, answer_of};
+ghost use Rattle.slotter.specs.Bursts.{builder_reply};
+ghost use Rattle.block_text.specs.BlockText.{letter_type, wanted, not_character, not_characters, wrong_count, refusal_of, character_bit, burst_of, answer_of};
 
 use dsp_types::{ACCEPTED, BAD_BIT, BAD_LENGTH, BAD_TRAINING};
 pub use line::{behind, push};
@@ -15,9 +15,9 @@ pub use slot::{Complaint, LineSlot, slot_of};
 use slotter::{Answer, Burst};
 
 // The burst type that a letter asks for: S 4, N 1, P 2, another letter 0.
-#[tactic(auto, unfolding(crate::specs::BlockText::letterType))]
+#[tactic(auto, unfolding(crate::specs::BlockText::letter_type))]
 pub fn type_of(letter: u8) -> u32
-    ensures { result ≡ letterType letter }
+    ensures { result ≡ letter_type letter }
 {
     if letter == b'S' {
         4
@@ -40,7 +40,7 @@ fn wanted_length(burst_type: u32) -> usize
 
 // Whether some character is other than 0 and 1.
 fn not_characters(characters: &[u8]) -> bool
-    ensures { result ≡ notCharacters characters.now }
+    ensures { result ≡ not_characters characters.now }
 {
     let mut found = false;
     for i in 0..characters.len() {
@@ -50,25 +50,25 @@ fn not_characters(characters: &[u8]) -> bool
 }
 
 // Whether a character is other than 0 and 1.
-#[tactic(auto, unfolding(crate::specs::BlockText::notCharacter))]
+#[tactic(auto, unfolding(crate::specs::BlockText::not_character))]
 pub fn not_character(c: u8) -> bool
-    ensures { result ≡ notCharacter c }
+    ensures { result ≡ not_character c }
 {
     !((c == b'0') | (c == b'1'))
 }
 
 // Whether the characters behind a letter of that type are too few or too many. For another letter no length is judged.
-#[tactic(auto, unfolding(crate::specs::BlockText::wrongCount, dsp_types::specs::Refusals::wrongLength))]
+#[tactic(auto, unfolding(crate::specs::BlockText::wrong_count, dsp_types::specs::Refusals::wrong_length))]
 fn wrong_length(burst_type: u32, characters: &[u8]) -> bool
-    ensures { result ≡ wrongCount burst_type characters.now }
+    ensures { result ≡ wrong_count burst_type characters.now }
 {
     (burst_type != 0) & (characters.len() != wanted_length(burst_type))
 }
 
 // The refusal of the characters behind a letter of that type: 3, 4, 5 for another letter, else 0.
-#[tactic(auto, unfolding(crate::specs::BlockText::refusalOf))]
+#[tactic(auto, unfolding(crate::specs::BlockText::refusal_of))]
 fn refusal_of(burst_type: u32, characters: &[u8]) -> u32
-    ensures { result ≡ refusalOf burst_type characters.now }
+    ensures { result ≡ refusal_of burst_type characters.now }
 {
     let wrong = wrong_length(burst_type, characters);
     let bad = not_characters(characters);
@@ -86,9 +86,9 @@ fn refusal_of(burst_type: u32, characters: &[u8]) -> u32
 }
 
 // The bit that a character stands for.
-#[tactic(auto, unfolding(crate::specs::BlockText::characterBit))]
+#[tactic(auto, unfolding(crate::specs::BlockText::character_bit))]
 fn bit_of(c: u8) -> u8
-    ensures { result ≡ characterBit c }
+    ensures { result ≡ character_bit c }
 {
     if c == b'1' { 1 } else { 0 }
 }
@@ -96,7 +96,7 @@ fn bit_of(c: u8) -> u8
 // The bits that at most 462 characters stand for, and zeros behind them.
 fn bits_of(characters: &[u8]) -> [u8; 462]
     requires { length characters.now ≤ 462 }
-    ensures { result ≡ map characterBit characters.now ++ drop (length characters.now) (replicate 462 0) }
+    ensures { result ≡ map character_bit characters.now ++ drop (length characters.now) (replicate 462 0) }
 {
     let mut bits = [0; 462];
     for i in 0..characters.len() {
@@ -108,7 +108,7 @@ fn bits_of(characters: &[u8]) -> [u8; 462]
 // The burst of a type, from the characters of its blocks.
 fn burst_of(burst_type: u32, characters: &[u8]) -> Burst
     requires { length characters.now ≡ wanted burst_type }
-    ensures { builderReply result ≡ burstOf burst_type (map characterBit characters.now) }
+    ensures { builder_reply result ≡ burst_of burst_type (map character_bit characters.now) }
 {
     let all = bits_of(characters);
     let bits: &[u8] = &all;
@@ -122,7 +122,7 @@ fn burst_of(burst_type: u32, characters: &[u8]) -> Burst
 // The burst of a type, 4 sync, 1 or 2 normal, from its blocks' bits in burst order as characters 0 and 1, or their
 // refusal: 3, 4, or 5 for another type. For type 0, another letter, no length is judged.
 pub fn answer(burst_type: u32, characters: &[u8]) -> Burst
-    ensures { builderReply result ≡ answer_of burst_type characters.now }
+    ensures { builder_reply result ≡ answer_of burst_type characters.now }
 {
     let number = refusal_of(burst_type, characters);
     if number != ACCEPTED {

@@ -1,6 +1,6 @@
 // A line that asks for a slot: a burst's type and its blocks, or none.
 ghost use Rattle.std.specs.Prelude.{◌≡◌, List, ◌∷◌, ◌++◌, ℕ, length, take, drop};
-ghost use Rattle.block_text.specs.Lines.{startsWith, asked_of, askedUplink, asked, sentOf};
+ghost use Rattle.block_text.specs.Lines.{starts_with, asked_of, asked_uplink, asked, sent_of};
 
 #[derive(Clone, Copy)]
 pub(crate) enum Asked {
@@ -16,7 +16,7 @@ pub(crate) enum Asked {
 }
 
 fn starts_with(line: &[u8], word: &[u8]) -> bool
-    ensures { result ≡ startsWith word.now line.now }
+    ensures { result ≡ starts_with word.now line.now }
 {
     if line.len() < word.len() {
         return false;
@@ -35,9 +35,9 @@ pub fn behind(line: &[u8], at: usize) -> &[u8]
     }
 }
 
-#[tactic(auto, unfolding(crate::specs::Lines::askedUplink, crate::specs::Lines::asked_of, text::specs::Text::ascii))]
+#[tactic(auto, unfolding(crate::specs::Lines::asked_uplink, crate::specs::Lines::asked_of, text::specs::Text::ascii))]
 fn read_uplink(line: &[u8]) -> Asked
-    ensures { asked_of line.now result ≡ askedUplink line.now }
+    ensures { asked_of line.now result ≡ asked_uplink line.now }
 {
     if starts_with(line, b"uplink1 ") {
         return Asked::Uplink(1);
@@ -80,7 +80,7 @@ pub(crate) fn read(line: &[u8]) -> Asked
 // `push`, on the bytes as a slice.
 fn push_in(line: &mut [u8], len: usize, byte: u8) -> usize
     requires { length line.old ≡ 512 }
-    ensures { (t : List ℕ) → sentOf (take result line.new ++ t) ≡ sentOf (take len line.old ++ (byte ∷ t)) }
+    ensures { (t : List ℕ) → sent_of (take result line.new ++ t) ≡ sent_of (take len line.old ++ (byte ∷ t)) }
 {
     if len < 512 {
         line[len] = byte;
@@ -93,7 +93,7 @@ fn push_in(line: &mut [u8], len: usize, byte: u8) -> usize
 // Adds a byte to a line of which the first len bytes are kept, and tells how many are kept then: 512 at most. What the line
 // comes to is the same, whatever follows: a longer one is of no burst, or refused for its offset or its length.
 pub fn push(line: &mut [u8; 512], len: usize, byte: u8) -> usize
-    ensures { (t : List ℕ) → sentOf (take result line.new ++ t) ≡ sentOf (take len line.old ++ (byte ∷ t)) }
+    ensures { (t : List ℕ) → sent_of (take result line.new ++ t) ≡ sent_of (take len line.old ++ (byte ∷ t)) }
 {
     push_in(line, len, byte)
 }

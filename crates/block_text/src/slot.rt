@@ -1,7 +1,7 @@
 // The slot that a line asks for, and what is said of a line that cannot be sent.
 ghost use Rattle.std.specs.Prelude.{◌≡◌, cond, [], ◌∷◌};
 ghost use Rattle.block_text.specs.BlockText.{answer_of};
-ghost use Rattle.block_text.specs.Lines.{asked, answered, sentFor, complaintOf, complaintFor, slotsFor, slots_of};
+ghost use Rattle.block_text.specs.Lines.{asked, answered, sent_for, complaint_of, complaint_for, slots_for, slots_of};
 
 use crate::answer;
 use crate::line::{Asked, behind, read};
@@ -48,9 +48,9 @@ pub(crate) fn without_burst(is_sent: bool, complaint: Complaint) -> LineSlot
 }
 
 // What is wrong with the characters of a burst of that type, which are answered with that number.
-#[tactic(auto, unfolding(crate::specs::Lines::complaintOf))]
+#[tactic(auto, unfolding(crate::specs::Lines::complaint_of))]
 fn complaint_of(burst_type: u32, number: u32) -> Complaint
-    ensures { result ≡ complaintOf burst_type number }
+    ensures { result ≡ complaint_of burst_type number }
 {
     if number == ACCEPTED {
         return Complaint::None;
@@ -66,8 +66,8 @@ fn complaint_of(burst_type: u32, number: u32) -> Complaint
 }
 
 fn burst_slot(burst_type: u32, characters: &[u8]) -> LineSlot
-    ensures slots { slots_of result ≡ slotsFor (answered burst_type (answer_of burst_type characters.now)) }
-    ensures complaint { result.complaint ≡ complaintFor (answered burst_type (answer_of burst_type characters.now)) }
+    ensures slots { slots_of result ≡ slots_for (answered burst_type (answer_of burst_type characters.now)) }
+    ensures complaint { result.complaint ≡ complaint_for (answered burst_type (answer_of burst_type characters.now)) }
 {
     let burst = answer(burst_type, characters);
     let number = burst.number();
@@ -83,8 +83,8 @@ fn burst_slot(burst_type: u32, characters: &[u8]) -> LineSlot
 
 // The slot of a line without its line end, and what is wrong with the line.
 pub fn slot_of(line: &[u8]) -> LineSlot
-    ensures slots { slots_of result ≡ slotsFor (sentFor (asked line.now)) }
-    ensures complaint { result.complaint ≡ complaintFor (sentFor (asked line.now)) }
+    ensures slots { slots_of result ≡ slots_for (sent_for (asked line.now)) }
+    ensures complaint { result.complaint ≡ complaint_for (sent_for (asked line.now)) }
 {
     let wish = read(line);
     match wish {

@@ -1,7 +1,7 @@
 // The slot that an uplink line asks for: a burst at an offset.
 ghost use Rattle.std.specs.Prelude.{◌≡◌, ◌≤◌, length};
-ghost use Rattle.block_text.specs.UplinkLines.{first_word, digitOf, offset_of, notOffset, uplinkWanted, uplinkSlot};
-ghost use Rattle.block_text.specs.Lines.{uplink, lengthComplaint, uplinkSent, sentFor, slotsFor, complaintFor, slots_of};
+ghost use Rattle.block_text.specs.UplinkLines.{first_word, digit_of, offset_of, not_offset, uplink_wanted, uplink_slot};
+ghost use Rattle.block_text.specs.Lines.{uplink, length_complaint, uplink_sent, sent_for, slots_for, complaint_for, slots_of};
 
 use crate::line::behind;
 use crate::slot::{Complaint, LineSlot, without_burst};
@@ -23,9 +23,9 @@ fn word_length(text: &[u8]) -> usize
     text.len()
 }
 
-#[tactic(auto, unfolding(crate::specs::UplinkLines::digitOf))]
+#[tactic(auto, unfolding(crate::specs::UplinkLines::digit_of))]
 fn digit_of(c: u8) -> usize
-    ensures value { result ≡ digitOf c }
+    ensures value { result ≡ digit_of c }
     ensures bound { result ≤ 99 }
 {
     if c < b'0' {
@@ -50,25 +50,25 @@ fn offset_of(word: &[u8]) -> usize
     NO_OFFSET
 }
 
-#[tactic(auto, unfolding(crate::specs::UplinkLines::notOffset))]
+#[tactic(auto, unfolding(crate::specs::UplinkLines::not_offset))]
 fn not_offset(n: usize) -> bool
-    ensures { result ≡ notOffset n }
+    ensures { result ≡ not_offset n }
 {
     (n % 2 != 0) | (48 < n)
 }
 
 // How many bits both blocks of a type have.
-#[tactic(auto, unfolding(crate::specs::UplinkLines::uplinkWanted))]
+#[tactic(auto, unfolding(crate::specs::UplinkLines::uplink_wanted))]
 fn uplink_length(burst_type: u32) -> usize
-    ensures { result ≡ uplinkWanted burst_type }
+    ensures { result ≡ uplink_wanted burst_type }
 {
     if burst_type == 3 { 168 } else { 432 }
 }
 
 // A slot's bits with the burst of a type at the offset.
 fn placed_burst(burst_type: u32, offset: usize, characters: &[u8]) -> [u8; 510]
-    requires { length characters.now ≡ uplinkWanted burst_type }
-    ensures { result ≡ uplinkSlot burst_type offset characters.now }
+    requires { length characters.now ≡ uplink_wanted burst_type }
+    ensures { result ≡ uplink_slot burst_type offset characters.now }
 {
     let all = bits_of(characters);
     let bits: &[u8] = &all;
@@ -85,9 +85,9 @@ fn placed_burst(burst_type: u32, offset: usize, characters: &[u8]) -> [u8; 510]
     window
 }
 
-#[tactic(auto, unfolding(crate::specs::Lines::lengthComplaint))]
+#[tactic(auto, unfolding(crate::specs::Lines::length_complaint))]
 fn length_complaint(burst_type: u32) -> Complaint
-    ensures { result ≡ lengthComplaint burst_type }
+    ensures { result ≡ length_complaint burst_type }
 {
     if burst_type == 3 {
         Complaint::ControlLength
@@ -98,8 +98,8 @@ fn length_complaint(burst_type: u32) -> Complaint
 
 // The slot of a burst of that type, from its offset and its bits' characters.
 fn judged(burst_type: u32, offset: usize, characters: &[u8]) -> LineSlot
-    ensures slots { slots_of result ≡ slotsFor (uplinkSent burst_type offset characters.now) }
-    ensures complaint { result.complaint ≡ complaintFor (uplinkSent burst_type offset characters.now) }
+    ensures slots { slots_of result ≡ slots_for (uplink_sent burst_type offset characters.now) }
+    ensures complaint { result.complaint ≡ complaint_for (uplink_sent burst_type offset characters.now) }
 {
     if not_offset(offset) {
         return without_burst(true, Complaint::Offset);
@@ -120,8 +120,8 @@ fn judged(burst_type: u32, offset: usize, characters: &[u8]) -> LineSlot
 
 // The slot of an uplink burst of that type, 1 or 2 normal, 3 control, from what stands behind its word.
 pub(crate) fn uplink_slot(burst_type: u32, text: &[u8]) -> LineSlot
-    ensures slots { slots_of result ≡ slotsFor (sentFor (uplink burst_type text.now)) }
-    ensures complaint { result.complaint ≡ complaintFor (sentFor (uplink burst_type text.now)) }
+    ensures slots { slots_of result ≡ slots_for (sent_for (uplink burst_type text.now)) }
+    ensures complaint { result.complaint ≡ complaint_for (sent_for (uplink burst_type text.now)) }
 {
     let len = word_length(text);
     let offset = offset_of(front(text, len));

@@ -2,8 +2,8 @@
 #![tactic(auto)]
 
 ghost use Rattle.std.specs.Prelude.{◌≡◌, ◌+◌, ◌≤◌, ◌<◌, length};
-ghost use Rattle.burst_finder.specs.Search.{placings, findSequence, below, findSync};
-ghost use Rattle.burst_finder.specs.Slots.{mostErrors, typeNumber, notFound, checkSequence, checkNormal, checkSlot, getBurst};
+ghost use Rattle.burst_finder.specs.Search.{placings, find_sequence, below, find_sync};
+ghost use Rattle.burst_finder.specs.Slots.{most_errors, type_number, not_found, check_sequence, check_normal, check_slot, get_burst};
 
 use train_consts::{SEQ_EXT, SEQ_NORM1, SEQ_NORM2, SEQ_SYNC};
 
@@ -26,7 +26,7 @@ pub enum TrainingSequence {
 impl TrainingSequence {
     // The number that the logger sees.
     pub fn number(self) -> u8
-        ensures { result ≡ typeNumber self }
+        ensures { result ≡ type_number self }
     {
         match self {
             TrainingSequence::NotFound => 0,
@@ -78,7 +78,7 @@ fn even_placings(n: usize, m: usize) -> usize
 // for a quick search: a placing is left where it can't be better any more.
 fn find_sequence(bits: &[u8], sequence: &[u8], limit: usize) -> Found
     requires { limit ≤ length sequence.now }
-    ensures { result ≡ below limit (findSequence bits.now sequence.now) }
+    ensures { result ≡ below limit (find_sequence bits.now sequence.now) }
 {
     let mut min_pos: usize = 0;
     let mut min_dist = limit;
@@ -108,7 +108,7 @@ fn find_sequence(bits: &[u8], sequence: &[u8], limit: usize) -> Found
 // The search of a receiver that is not synchronized: from bit 216 on, so that the burst found can still be received whole. The place counts from there. A
 // placing with more differences than are accepted would not do: then it is place 0 with one more than those.
 pub fn find_sync(bits: &[u8]) -> Found
-    ensures { result ≡ below (mostErrors + 1) (findSync bits.now) }
+    ensures { result ≡ below (most_errors + 1) (find_sync bits.now) }
 {
     if bits.len() < 216 {
         return Found {
@@ -121,7 +121,7 @@ pub fn find_sync(bits: &[u8]) -> Found
 
 impl Finding {
     fn not_found() -> Finding
-        ensures { result ≡ notFound }
+        ensures { result ≡ not_found }
     {
         Finding {
             train_type: TrainingSequence::NotFound,
@@ -142,7 +142,7 @@ fn check_sequence(
     max_errs: usize,
 ) -> Finding
     requires { (train_pos + length train_bits.now ≤ burst_len) × (max_errs < length train_bits.now) }
-    ensures { result ≡ checkSequence bits.now train_pos burst_len train_type train_bits.now max_errs }
+    ensures { result ≡ check_sequence bits.now train_pos burst_len train_type train_bits.now max_errs }
 {
     if bits.len() < burst_len {
         return Finding::not_found();
@@ -164,7 +164,7 @@ fn check_sequence(
 // The same for normal training sequence 1 and, where that is not found, for 2.
 fn check_normal(bits: &[u8], train_pos: usize, burst_len: usize) -> Finding
     requires { train_pos + 22 ≤ burst_len }
-    ensures { result ≡ checkNormal bits.now train_pos burst_len }
+    ensures { result ≡ check_normal bits.now train_pos burst_len }
 {
     let normal1 = check_sequence(
         bits,
@@ -190,7 +190,7 @@ fn check_normal(bits: &[u8], train_pos: usize, burst_len: usize) -> Finding
 // The first training sequence that is accepted in a slot's bits, in the order of its kind. Bits of any length are searched; the receiver's windows have
 // 510, and 254 for half a slot.
 pub fn check_slot(slot_type: SlotType, bits: &[u8]) -> Finding
-    ensures { result ≡ checkSlot slot_type bits.now }
+    ensures { result ≡ check_slot slot_type bits.now }
 {
     match slot_type {
         SlotType::Dl => {
@@ -221,7 +221,7 @@ pub fn check_slot(slot_type: SlotType, bits: &[u8]) -> Finding
 
 // The burst's part of the slot's bits; empty where that does not lie within them.
 pub fn get_burst(bits: &[u8], pos: usize, len: usize) -> &[u8]
-    ensures { result.now ≡ getBurst bits.now pos len }
+    ensures { result.now ≡ get_burst bits.now pos len }
 {
     if bits.len() < pos {
         return &bits[0..0];

@@ -4,8 +4,8 @@
 
 ghost use Rattle.std.specs.Prelude.{◌≡◌, [], ◌∷◌, ℕ};
 ghost use Rattle.slot_receiver.specs.Receiver.{new};
-ghost use Rattle.slot_receiver.specs.Calls.{sampleOutcome, takeOutcome, followOutcome, replyOf, takeReplyOf, inNumbers};
-ghost use Rattle.slot_receiver.specs.View.{modeNumber, mode_of, modeFollowing};
+ghost use Rattle.slot_receiver.specs.Calls.{sample_outcome, take_outcome, follow_outcome, reply_of, take_reply_of, in_numbers};
+ghost use Rattle.slot_receiver.specs.View.{mode_number, mode_of, mode_following};
 ghost use Rattle.demodulator.specs.View.{view_of};
 
 use dsp_types::{ComplexSample, SampleCount};
@@ -35,7 +35,7 @@ pub struct Taken {
 impl Demodulator {
     pub fn new(initial_mode: Mode) -> Demodulator
         ensures receiver { view_of result ≡ new initial_mode }
-        ensures mode { result.state.slots.mode ≡ modeNumber initial_mode }
+        ensures mode { result.state.slots.mode ≡ mode_number initial_mode }
     {
         let state = State::new(initial_mode);
         let past = History::new();
@@ -44,8 +44,8 @@ impl Demodulator {
 
     // Takes one sample, or refuses it and stays as it is.
     pub fn sample(self, input: ComplexSample, sample_counter: SampleCount) -> Answered
-        ensures answer { replyOf result.answer ≡ (sampleOutcome (view_of self) input sample_counter.0).reply }
-        ensures receiver { view_of result.receiver ≡ (sampleOutcome (view_of self) input sample_counter.0).receiver }
+        ensures answer { reply_of result.answer ≡ (sample_outcome (view_of self) input sample_counter.0).reply }
+        ensures receiver { view_of result.receiver ≡ (sample_outcome (view_of self) input sample_counter.0).receiver }
         ensures refused { (n : ℕ) → result.answer ≡ Answer.Refused n → result.receiver ≡ self }
     {
         let state = self.state;
@@ -72,9 +72,9 @@ impl Demodulator {
         subslot1: &mut [u8],
         subslot2: &mut [u8],
     ) -> Taken
-        ensures answer { takeReplyOf result.answer ≡ inNumbers (takeOutcome (view_of self) slot.old subslot1.old subslot2.old).reply }
-        ensures receiver { view_of result.receiver ≡ (takeOutcome (view_of self) slot.old subslot1.old subslot2.old).receiver }
-        ensures lent { slot.new ∷ subslot1.new ∷ subslot2.new ∷ [] ≡ (takeOutcome (view_of self) slot.old subslot1.old subslot2.old).lent }
+        ensures answer { take_reply_of result.answer ≡ in_numbers (take_outcome (view_of self) slot.old subslot1.old subslot2.old).reply }
+        ensures receiver { view_of result.receiver ≡ (take_outcome (view_of self) slot.old subslot1.old subslot2.old).receiver }
+        ensures lent { slot.new ∷ subslot1.new ∷ subslot2.new ∷ [] ≡ (take_outcome (view_of self) slot.old subslot1.old subslot2.old).lent }
         ensures refused { (n : ℕ) → result.answer ≡ TakeAnswer.Refused n → result.receiver ≡ self }
     {
         let state = self.state;
@@ -90,9 +90,9 @@ impl Demodulator {
 
     // Takes the slot timing of another receiver. A receiver that finds its own is refused.
     pub fn sync_to_demodulator(self, demod: Demodulator) -> Answered
-        ensures answer { replyOf result.answer ≡ (followOutcome (view_of self) (view_of demod)).reply }
-        ensures receiver { view_of result.receiver ≡ (followOutcome (view_of self) (view_of demod)).receiver }
-        ensures mode { result.answer ≡ Answer.Accepted → result.receiver.state.slots.mode ≡ modeFollowing (mode_of demod.state.slots.mode) self.state.slots.mode }
+        ensures answer { reply_of result.answer ≡ (follow_outcome (view_of self) (view_of demod)).reply }
+        ensures receiver { view_of result.receiver ≡ (follow_outcome (view_of self) (view_of demod)).receiver }
+        ensures mode { result.answer ≡ Answer.Accepted → result.receiver.state.slots.mode ≡ mode_following (mode_of demod.state.slots.mode) self.state.slots.mode }
         ensures refused { (n : ℕ) → result.answer ≡ Answer.Refused n → result.receiver ≡ self }
     {
         let state = self.state;

@@ -8,7 +8,7 @@ use lib.IntN.{ℤ, pos, negsuc, neg_ℤ, sub_ℕ, ◌+ℤ◌, ◌-ℤ◌}
 use lib.Signed.{lt_z}
 use lib.Dec.{ltb}
 use borrow.Author.Tests.{ltb-true, ltb-false, lt-ltb, le-ltb, eq-eqb, ne_eqb}
-use Rattle.dsp_types.specs.Ints.{up, dn, eqZ}
+use Rattle.dsp_types.specs.Ints.{up, dn, eq_z}
 
 sub_parts : (a b : ℕ) → up (sub_ℕ a b) + b ≡ dn (sub_ℕ a b) + a
 sub_parts a b = go (ltb a b) refl
@@ -29,14 +29,14 @@ up_neg (pos zero) = refl
 up_neg (pos (suc n)) = refl
 up_neg (negsuc n) = refl
 
-pub dn-neg : (x : ℤ) → dn (neg_ℤ x) ≡ up x
-dn-neg (pos zero) = refl
-dn-neg (pos (suc n)) = refl
-dn-neg (negsuc n) = refl
+pub dn_neg : (x : ℤ) → dn (neg_ℤ x) ≡ up x
+dn_neg (pos zero) = refl
+dn_neg (pos (suc n)) = refl
+dn_neg (negsuc n) = refl
 
 -- a difference
 pub less : (x y : ℤ) → up (x -ℤ y) + dn x + up y ≡ dn (x -ℤ y) + up x + dn y
-less x y = omega (arith, sum x (neg_ℤ y), up_neg y, dn-neg y)
+less x y = omega (arith, sum x (neg_ℤ y), up_neg y, dn_neg y)
 
 -- two integers with equal parts are equal
 pub same : (x y : ℤ) → up x + dn y ≡ up y + dn x → x ≡ y
@@ -66,26 +66,26 @@ lt_z_no (pos a) (negsuc b) h = refl
 lt_z_no (negsuc a) (pos b) h = absurd (omega arith)
 lt_z_no (negsuc a) (negsuc b) h = le-ltb b a (omega arith)
 
-pub ltZ-true : (x y : ℤ) → lt_z x y ≡ true → up x + dn y < up y + dn x
-ltZ-true (pos a) (pos b) e = omega (arith, ltb-true a b e)
-ltZ-true (pos a) (negsuc b) e = absurd (let z : ◌≡◌ {A = ℕ} 0 1 = cc in omega arith)
-ltZ-true (negsuc a) (pos b) e = omega arith
-ltZ-true (negsuc a) (negsuc b) e = omega (arith, ltb-true b a e)
+pub lt_z_true : (x y : ℤ) → lt_z x y ≡ true → up x + dn y < up y + dn x
+lt_z_true (pos a) (pos b) e = omega (arith, ltb-true a b e)
+lt_z_true (pos a) (negsuc b) e = absurd (let z : ◌≡◌ {A = ℕ} 0 1 = cc in omega arith)
+lt_z_true (negsuc a) (pos b) e = omega arith
+lt_z_true (negsuc a) (negsuc b) e = omega (arith, ltb-true b a e)
 
-pub ltZ-false : (x y : ℤ) → lt_z x y ≡ false → up y + dn x ≤ up x + dn y
-ltZ-false (pos a) (pos b) e = omega (arith, ltb-false a b e)
-ltZ-false (pos a) (negsuc b) e = omega arith
-ltZ-false (negsuc a) (pos b) e = absurd (true≢false e)
-ltZ-false (negsuc a) (negsuc b) e = omega (arith, ltb-false b a e)
+pub lt_z_false : (x y : ℤ) → lt_z x y ≡ false → up y + dn x ≤ up x + dn y
+lt_z_false (pos a) (pos b) e = omega (arith, ltb-false a b e)
+lt_z_false (pos a) (negsuc b) e = omega arith
+lt_z_false (negsuc a) (pos b) e = absurd (true≢false e)
+lt_z_false (negsuc a) (negsuc b) e = omega (arith, ltb-false b a e)
 
-pub eqZ-yes : (x y : ℤ) → up x + dn y ≡ up y + dn x → eqZ x y ≡ true
-eqZ-yes (pos a) (pos b) h = eq-eqb a b (omega arith)
-eqZ-yes (pos a) (negsuc b) h = absurd (omega arith)
-eqZ-yes (negsuc a) (pos b) h = absurd (omega arith)
-eqZ-yes (negsuc a) (negsuc b) h = eq-eqb a b (omega arith)
+pub eq_z_yes : (x y : ℤ) → up x + dn y ≡ up y + dn x → eq_z x y ≡ true
+eq_z_yes (pos a) (pos b) h = eq-eqb a b (omega arith)
+eq_z_yes (pos a) (negsuc b) h = absurd (omega arith)
+eq_z_yes (negsuc a) (pos b) h = absurd (omega arith)
+eq_z_yes (negsuc a) (negsuc b) h = eq-eqb a b (omega arith)
 
-pub eqZ-no : (x y : ℤ) → (up x + dn y ≡ up y + dn x → ⊥) → eqZ x y ≡ false
-eqZ-no (pos a) (pos b) h = ne_eqb a b (λ e. h (omega arith))
-eqZ-no (pos a) (negsuc b) h = refl
-eqZ-no (negsuc a) (pos b) h = refl
-eqZ-no (negsuc a) (negsuc b) h = ne_eqb a b (λ e. h (omega arith))
+pub eq_z_no : (x y : ℤ) → (up x + dn y ≡ up y + dn x → ⊥) → eq_z x y ≡ false
+eq_z_no (pos a) (pos b) h = ne_eqb a b (λ e. h (omega arith))
+eq_z_no (pos a) (negsuc b) h = refl
+eq_z_no (negsuc a) (pos b) h = refl
+eq_z_no (negsuc a) (negsuc b) h = ne_eqb a b (λ e. h (omega arith))

@@ -9,8 +9,8 @@ use mathlib.Core.List.{List, ◌∷◌}
 use lib.ListN.{length, get_or, set, take, replicate, get_or-replicate}
 use lib.Seq.{get_or-set_same, get_or-set_other}
 use lib.Ieee.{nan}
-use Rattle.dsp_types.specs.Samples.{zeroF, silence}
-use Rattle.dsp_types.specs.Ring.{place_of, ringAt, ringSample, newest}
+use Rattle.dsp_types.specs.Samples.{zero_f, silence}
+use Rattle.dsp_types.specs.Ring.{place_of, ring_at, ring_sample, newest}
 
 -- ---- what the laws speak of
 
@@ -23,116 +23,116 @@ abbrev pub Agree : {A : Type 0} → ℕ → (ℕ → A) → (ℕ → A) → Type
 Agree n f g = (d : ℕ) → d < n → f d ≡ g d
 
 -- the record f, one call later: x is the newest now
-abbrev pub oneLater : {A : Type 0} → A → (ℕ → A) → ℕ → A
-oneLater x f zero = x
-oneLater x f (suc j) = f j
+abbrev pub one_later : {A : Type 0} → A → (ℕ → A) → ℕ → A
+one_later x f zero = x
+one_later x f (suc j) = f j
 
-pub le-or-lt : (a b : ℕ) → (a ≤ b) ⊎ (b < a)
-le-or-lt zero b = inl zero-le
-le-or-lt (suc a) zero = inr (suc-le-suc zero-le)
-le-or-lt (suc a) (suc b) = ⊎_elim (λ p. inl (suc-le-suc p)) (λ q. inr (suc-le-suc q)) (le-or-lt a b)
+pub le_or_lt : (a b : ℕ) → (a ≤ b) ⊎ (b < a)
+le_or_lt zero b = inl zero-le
+le_or_lt (suc a) zero = inr (suc-le-suc zero-le)
+le_or_lt (suc a) (suc b) = ⊎_elim (λ p. inl (suc-le-suc p)) (λ q. inr (suc-le-suc q)) (le_or_lt a b)
 
 -- ---- the two places as plain sums
 
-place-low : (n at d : ℕ) → at < n → d ≤ at → place_of n at d ≡ at - d
+place_low : (n at d : ℕ) → at < n → d ≤ at → place_of n at d ≡ at - d
 unfolding place_of
-place-low n at d h l =
+place_low n at d h l =
     let e : at + n - d ≡ at - d + n = omega arith in
     rw e (add-mod_right (at - d) n ∙ mod-eq_of_lt (omega arith))
 
-place-high : (n at d : ℕ) → d < n → at < d → place_of n at d ≡ at + n - d
+place_high : (n at d : ℕ) → d < n → at < d → place_of n at d ≡ at + n - d
 unfolding place_of
-place-high n at d h l = mod-eq_of_lt (omega arith)
+place_high n at d h l = mod-eq_of_lt (omega arith)
 
 next_low : (n at : ℕ) → at + 1 < n → next n at ≡ at + 1
 unfolding next
 next_low n at h = mod-eq_of_lt h
 
-next-high : (n at : ℕ) → at < n → n ≤ at + 1 → next n at ≡ 0
+next_high : (n at : ℕ) → at < n → n ≤ at + 1 → next n at ≡ 0
 unfolding next
-next-high n at h l =
+next_high n at h l =
     let e : at + 1 ≡ n = omega arith in
     rw e (mod_self n)
 
-pub next-lt : (n at : ℕ) → at < n → next n at < n
+pub next_lt : (n at : ℕ) → at < n → next n at < n
 unfolding next
-next-lt n at h = mod-lt (at + 1) (omega arith)
+next_lt n at h = mod-lt (at + 1) (omega arith)
 
-pub place-lt : (n at d : ℕ) → at < n → place_of n at d < n
+pub place_lt : (n at d : ℕ) → at < n → place_of n at d < n
 unfolding place_of
-place-lt n at d h = mod-lt (at + n - d) (omega arith)
+place_lt n at d h = mod-lt (at + n - d) (omega arith)
 
 -- ---- the newest stands at `at`; what was d steps ago is d + 1 steps ago after a store, and the store does not touch it
 
-pub place-newest : (n at : ℕ) → at < n → place_of n at 0 ≡ at
-place-newest n at h = rw (place-low n at 0 h zero-le) (omega arith)
+pub place_newest : (n at : ℕ) → at < n → place_of n at 0 ≡ at
+place_newest n at h = rw (place_low n at 0 h zero-le) (omega arith)
 
-place-older : (n at d : ℕ) → at < n → suc d < n → place_of n (next n at) (suc d) ≡ place_of n at d
-place-older n at d h k =
+place_older : (n at d : ℕ) → at < n → suc d < n → place_of n (next n at) (suc d) ≡ place_of n at d
+place_older n at d h k =
     ⊎_elim
     (λ (p : suc (at + 1) ≤ n). rw (next_low n at p) (⊎_elim
-    (λ (q : d ≤ at). rw (place-low n (at + 1) (suc d) p (omega arith), place-low n at d h q) (omega arith))
-    (λ (q : at < d). rw (place-high n (at + 1) (suc d) k (omega arith), place-high n at d (omega arith) q) (omega arith))
-    (le-or-lt d at)))
-    (λ (p : n < suc (at + 1)). rw (next-high n at h (omega arith), place-high n 0 (suc d) k (omega arith), place-low n at d h (omega arith)) (omega arith))
-    (le-or-lt (suc (at + 1)) n)
+    (λ (q : d ≤ at). rw (place_low n (at + 1) (suc d) p (omega arith), place_low n at d h q) (omega arith))
+    (λ (q : at < d). rw (place_high n (at + 1) (suc d) k (omega arith), place_high n at d (omega arith) q) (omega arith))
+    (le_or_lt d at)))
+    (λ (p : n < suc (at + 1)). rw (next_high n at h (omega arith), place_high n 0 (suc d) k (omega arith), place_low n at d h (omega arith)) (omega arith))
+    (le_or_lt (suc (at + 1)) n)
 
-place-apart : (n at d : ℕ) → at < n → suc d < n → place_of n at d ≢ next n at
-place-apart n at d h k e =
+place_apart : (n at d : ℕ) → at < n → suc d < n → place_of n at d ≢ next n at
+place_apart n at d h k e =
     ⊎_elim
     (λ (p : suc (at + 1) ≤ n). ⊎_elim
-    (λ (q : d ≤ at). omega (arith, e, place-low n at d h q, next_low n at p))
-    (λ (q : at < d). omega (arith, e, place-high n at d (omega arith) q, next_low n at p))
-    (le-or-lt d at))
-    (λ (p : n < suc (at + 1)). omega (arith, e, next-high n at h (omega arith), place-low n at d h (omega arith)))
-    (le-or-lt (suc (at + 1)) n)
+    (λ (q : d ≤ at). omega (arith, e, place_low n at d h q, next_low n at p))
+    (λ (q : at < d). omega (arith, e, place_high n at d (omega arith) q, next_low n at p))
+    (le_or_lt d at))
+    (λ (p : n < suc (at + 1)). omega (arith, e, next_high n at h (omega arith), place_low n at d h (omega arith)))
+    (le_or_lt (suc (at + 1)) n)
 
 -- The law of a store: x is the newest now, and what was d steps ago is d + 1 steps ago.
-pub ring-later : {A : Type 0} (z : A) (n : ℕ) (buf : List A) (at : ℕ) (x : A) → length buf ≡ n → at < n
-    → (d : ℕ) → d < n → ringAt z n (set buf (next n at) x) (next n at) d ≡ oneLater x (ringAt z n buf at) d
-unfolding ringAt
-ring-later z n buf at x w h zero k =
-    rw (place-newest n (next n at) (next-lt n at h)) (get_or-set_same buf (next n at) x z (omega (arith, next-lt n at h)))
-ring-later z n buf at x w h (suc d) k =
-    rw (place-older n at d h k) (get_or-set_other buf (next n at) (place_of n at d) x z (place-apart n at d h k))
+pub ring_later : {A : Type 0} (z : A) (n : ℕ) (buf : List A) (at : ℕ) (x : A) → length buf ≡ n → at < n
+    → (d : ℕ) → d < n → ring_at z n (set buf (next n at) x) (next n at) d ≡ one_later x (ring_at z n buf at) d
+unfolding ring_at
+ring_later z n buf at x w h zero k =
+    rw (place_newest n (next n at) (next_lt n at h)) (get_or-set_same buf (next n at) x z (omega (arith, next_lt n at h)))
+ring_later z n buf at x w h (suc d) k =
+    rw (place_older n at d h k) (get_or-set_other buf (next n at) (place_of n at d) x z (place_apart n at d h k))
 
 -- ---- rings of zeros
 
-pub ring-zeros : (n : ℕ) → 0 < n → (d : ℕ) → ringAt nan n (replicate n zeroF) 0 d ≡ zeroF
-unfolding ringAt
-ring-zeros n h d = get_or-replicate n (place_of n 0 d) zeroF nan (place-lt n 0 d h)
+pub ring_zeros : (n : ℕ) → 0 < n → (d : ℕ) → ring_at nan n (replicate n zero_f) 0 d ≡ zero_f
+unfolding ring_at
+ring_zeros n h d = get_or-replicate n (place_of n 0 d) zero_f nan (place_lt n 0 d h)
 
-pub sample-zeros : (n : ℕ) → 0 < n → (d : ℕ) → ringSample n (replicate n zeroF) (replicate n zeroF) 0 d ≡ silence
-unfolding ringSample
-sample-zeros n h d = λ i. record { re = ring-zeros n h d i; im = ring-zeros n h d i }
+pub sample_zeros : (n : ℕ) → 0 < n → (d : ℕ) → ring_sample n (replicate n zero_f) (replicate n zero_f) 0 d ≡ silence
+unfolding ring_sample
+sample_zeros n h d = λ i. record { re = ring_zeros n h d i; im = ring_zeros n h d i }
 
 -- ---- the same as one equation between lists, for a contract that is to be an equation
 
-pub newest-cong : {A : Type 0} (n : ℕ) {f g : ℕ → A} → Agree n f g → newest n f ≡ newest n g
+pub newest_cong : {A : Type 0} (n : ℕ) {f g : ℕ → A} → Agree n f g → newest n f ≡ newest n g
 unfolding newest
-newest-cong zero a = refl
-newest-cong (suc n) {f} {g} a = λ i. a zero (omega arith) i ∷ newest-cong n {f = λ d. f (suc d)} {g = λ d. g (suc d)} (λ d k. a (suc d) (omega arith)) i
+newest_cong zero a = refl
+newest_cong (suc n) {f} {g} a = λ i. a zero (omega arith) i ∷ newest_cong n {f = λ d. f (suc d)} {g = λ d. g (suc d)} (λ d k. a (suc d) (omega arith)) i
 
-take-newest : {A : Type 0} (n : ℕ) (f : ℕ → A) → take n (newest (suc n) f) ≡ newest n f
+take_newest : {A : Type 0} (n : ℕ) (f : ℕ → A) → take n (newest (suc n) f) ≡ newest n f
 unfolding newest
-take-newest zero f = refl
-take-newest (suc n) f = ap (λ l. f zero ∷ l) (take-newest n (λ d. f (suc d)))
+take_newest zero f = refl
+take_newest (suc n) f = ap (λ l. f zero ∷ l) (take_newest n (λ d. f (suc d)))
 
 -- what a store does, as an equation: newest n (after) ≡ take n (x ∷ newest n (before))
-pub newest-later : {A : Type 0} (n : ℕ) (x : A) {f g : ℕ → A} → Agree n g (oneLater x f) → newest n g ≡ take n (x ∷ newest n f)
+pub newest_later : {A : Type 0} (n : ℕ) (x : A) {f g : ℕ → A} → Agree n g (one_later x f) → newest n g ≡ take n (x ∷ newest n f)
 unfolding newest
-newest-later zero x a = refl
-newest-later (suc n) x {f} {g} a = newest-cong (suc n) a ∙ ap (λ l. x ∷ l) (sym (take-newest n f))
+newest_later zero x a = refl
+newest_later (suc n) x {f} {g} a = newest_cong (suc n) a ∙ ap (λ l. x ∷ l) (sym (take_newest n f))
 
 -- a record of one element is a list of it
-pub newest-same : {A : Type 0} (n : ℕ) (z : A) {f : ℕ → A} → Agree n f (λ j. z) → newest n f ≡ replicate n z
+pub newest_same : {A : Type 0} (n : ℕ) (z : A) {f : ℕ → A} → Agree n f (λ j. z) → newest n f ≡ replicate n z
 unfolding newest
-newest-same zero z a = refl
-newest-same (suc n) z {f} a = λ i. a zero (omega arith) i ∷ newest-same n z {f = λ d. f (suc d)} (λ d k. a (suc d) (omega arith)) i
+newest_same zero z a = refl
+newest_same (suc n) z {f} a = λ i. a zero (omega arith) i ∷ newest_same n z {f = λ d. f (suc d)} (λ d k. a (suc d) (omega arith)) i
 
 -- an element of the list is that of the record
-pub newest-at : {A : Type 0} (n : ℕ) (f : ℕ → A) (z : A) (d : ℕ) → d < n → get_or (newest n f) d z ≡ f d
+pub newest_at : {A : Type 0} (n : ℕ) (f : ℕ → A) (z : A) (d : ℕ) → d < n → get_or (newest n f) d z ≡ f d
 unfolding newest
-newest-at zero f z d k = absurd (omega arith)
-newest-at (suc n) f z zero k = refl
-newest-at (suc n) f z (suc d) k = newest-at n (λ j. f (suc j)) z d (omega arith)
+newest_at zero f z d k = absurd (omega arith)
+newest_at (suc n) f z zero k = refl
+newest_at (suc n) f z (suc d) k = newest_at n (λ j. f (suc j)) z d (omega arith)

@@ -15,13 +15,13 @@ pub below : (z : ℤ) → lt_z z (pos 0) ≡ true → negsuc 0 -ℤ z ≡ pos (m
 below (pos n) e = absurd (omega (arith, ltb-true n 0 e))
 below (negsuc n) e = rw (le-ltb (suc n) 1 (omega arith)) (ap pos (omega arith))
 
-pub below-is : (z : ℤ) → lt_z z (pos 0) ≡ true → z ≡ negsuc (mag z)
-below-is (pos n) e = absurd (omega (arith, ltb-true n 0 e))
-below-is (negsuc n) e = refl
+pub below_is : (z : ℤ) → lt_z z (pos 0) ≡ true → z ≡ negsuc (mag z)
+below_is (pos n) e = absurd (omega (arith, ltb-true n 0 e))
+below_is (negsuc n) e = refl
 
-pub above-is : (z : ℤ) → lt_z z (pos 0) ≡ false → z ≡ pos (mag z)
-above-is (pos n) e = refl
-above-is (negsuc n) e = absurd (let z : ◌≡◌ {A = ℕ} 0 1 = cc in omega arith)
+pub above_is : (z : ℤ) → lt_z z (pos 0) ≡ false → z ≡ pos (mag z)
+above_is (pos n) e = refl
+above_is (negsuc n) e = absurd (let z : ◌≡◌ {A = ℕ} 0 1 = cc in omega arith)
 
 pub widens : {z : ℤ} → SFits w32 z → SFits w64 z
 widens {z} f = let h : mag z < 2 ^ 31 = f.sfits in record { sfits = omega (arith, h) }
@@ -37,19 +37,19 @@ adds a (negsuc n) h f = go (ltb a (suc n)) refl
     go true e = record { sfits = omega (arith, g) }
     go false e = record { sfits = omega (arith, g) }
 
-pub divisor-none : (d n : ℕ) → d ≡ 0 → n ≡ 1 → n ≡ divisor d
+pub divisor_none : (d n : ℕ) → d ≡ 0 → n ≡ 1 → n ≡ divisor d
 unfolding divisor
-divisor-none d n z e = rw (z, e)
+divisor_none d n z e = rw (z, e)
 
-pub divisor-some : (d n : ℕ) → (d ≡ 0 → ⊥) → n ≡ d → n ≡ divisor d
+pub divisor_some : (d n : ℕ) → (d ≡ 0 → ⊥) → n ≡ d → n ≡ divisor d
 unfolding divisor
-divisor-some zero n z e = absurd (z refl)
-divisor-some (suc d) n z e = e
+divisor_some zero n z e = absurd (z refl)
+divisor_some (suc d) n z e = e
 
-pub divisor-above : (d : ℕ) → 0 < divisor d
+pub divisor_above : (d : ℕ) → 0 < divisor d
 unfolding divisor
-divisor-above zero = omega arith
-divisor-above (suc d) = omega arith
+divisor_above zero = omega arith
+divisor_above (suc d) = omega arith
 
 pub minus : (q : ℕ) → negsuc 0 -ℤ pos q ≡ negsuc q
 minus zero = refl

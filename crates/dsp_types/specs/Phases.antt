@@ -7,11 +7,11 @@ bit_of true = 1
 bit_of false = 0
 
 -- the phase of the symbol of two bits (01, "Burst bits"): 00 +1, 01 +3, 10 −1, 11 −3. `negsuc n` is −1 − n
-unfoldable pub phaseOf : ℕ → ℕ → ℤ
-phaseOf zero zero = pos 1
-phaseOf zero (suc b) = pos 3
-phaseOf (suc a) zero = negsuc 0
-phaseOf (suc a) (suc b) = negsuc 2
+unfoldable pub phase_of : ℕ → ℕ → ℤ
+phase_of zero zero = pos 1
+phase_of zero (suc b) = pos 3
+phase_of (suc a) zero = negsuc 0
+phase_of (suc a) (suc b) = negsuc 2
 
 -- a number of eighths modulo 8 (01, "Burst bits", "The sender")
 unfoldable pub modulo8 : ℤ → ℕ

@@ -9,12 +9,12 @@ unfoldable pub place_of : ℕ → ℕ → ℕ → ℕ
 place_of n at d = (at + n - d) % n
 
 -- what the ring holds d steps ago
-unfoldable pub ringAt : {A : Type 0} → A → ℕ → List A → ℕ → ℕ → A
-ringAt z n buf at d = get_or buf (place_of n at d) z
+unfoldable pub ring_at : {A : Type 0} → A → ℕ → List A → ℕ → ℕ → A
+ring_at z n buf at d = get_or buf (place_of n at d) z
 
 -- two rings that hold the parts of samples, with one index
-unfoldable pub ringSample : ℕ → List Float → List Float → ℕ → ℕ → ComplexSample
-ringSample n re im at d = record { re = ringAt nan n re at d; im = ringAt nan n im at d }
+unfoldable pub ring_sample : ℕ → List Float → List Float → ℕ → ℕ → ComplexSample
+ring_sample n re im at d = record { re = ring_at nan n re at d; im = ring_at nan n im at d }
 
 -- the newest n of a record, newest first. Keep it shut at a large numeral n: it would be written out
 unfoldable pub newest : {A : Type 0} → ℕ → (ℕ → A) → List A

@@ -21,6 +21,6 @@ divisor zero = 1
 divisor (suc d) = suc d
 
 -- n over d, rounded down
-unfoldable pub divEuclid : ℤ → ℕ → ℤ
-divEuclid (pos n) d = pos (n / divisor d)
-divEuclid (negsuc n) d = negsuc (n / divisor d)
+unfoldable pub div_euclid : ℤ → ℕ → ℤ
+div_euclid (pos n) d = pos (n / divisor d)
+div_euclid (negsuc n) d = negsuc (n / divisor d)

@@ -1,8 +1,8 @@
 // Sums, differences and tests of sample counts. Where 64 bits do not hold a sum, it is the nearest number that they hold.
 ghost use Rattle.std.specs.Prelude.{◌≡◌, ◌+ℤ◌, ◌-ℤ◌};
 ghost use Rattle.std.specs.Int.Signed.{lt_z};
-ghost use Rattle.dsp_types.specs.Ints.{eqZ};
-ghost use Rattle.dsp_types.specs.Refusals.{outOfCount};
+ghost use Rattle.dsp_types.specs.Ints.{eq_z};
+ghost use Rattle.dsp_types.specs.Refusals.{out_of_count};
 ghost use Rattle.dsp_types.specs.Times.{fitted};
 
 use crate::{LAST_COUNTER, SampleCount};
@@ -60,14 +60,14 @@ impl SampleCount {
     }
 
     pub fn is_same(self, other: SampleCount) -> bool
-        ensures { result ≡ eqZ self.0 other.0 }
+        ensures { result ≡ eq_z self.0 other.0 }
     {
         self.0 == other.0
     }
 
     // Whether it is no sample's counter: refusal 2.
     pub fn is_out_of_count(self) -> bool
-        ensures { result ≡ outOfCount self.0 }
+        ensures { result ≡ out_of_count self.0 }
     {
         self.is_before(SampleCount(0)) | SampleCount(LAST_COUNTER).is_before(self)
     }

@@ -6,8 +6,8 @@ mod refusals;
 
 ghost use Rattle.std.specs.Prelude.{◌≡◌, ◌-◌, ◌%◌, min, pos, ◌+ℤ◌};
 ghost use Rattle.std.specs.Int.Signed.{mag};
-ghost use Rattle.dsp_types.specs.Times.{slot_of, slots, divEuclid};
-ghost use Rattle.dsp_types.specs.Refusals.{notBits};
+ghost use Rattle.dsp_types.specs.Times.{slot_of, slots, div_euclid};
+ghost use Rattle.dsp_types.specs.Refusals.{not_bits};
 
 pub use refusals::{
     ACCEPTED, BAD_BIT, BAD_COUNTER, BAD_KIND, BAD_LENGTH, BAD_SAMPLE, BAD_SLOT, BAD_TRAINING,
@@ -75,7 +75,7 @@ impl TdmaTime {
 
 // n over d, rounded down. A divisor of 0 counts as 1.
 pub fn div_euclid(n: i64, d: u32) -> i64
-    ensures { result ≡ divEuclid n d }
+    ensures { result ≡ div_euclid n d }
 {
     let by = if d == 0 { 1 } else { d as u64 };
     let quotient = (unsigned(n) / by) as i64;
@@ -98,7 +98,7 @@ pub fn saturating_sub(a: usize, b: usize) -> usize
 
 // Whether some byte is neither 0 nor 1. It looks at every byte, so that the compiler can take many at once.
 pub fn not_bits(bytes: &[u8]) -> bool
-    ensures { result ≡ notBits bytes.now }
+    ensures { result ≡ not_bits bytes.now }
 {
     let mut found = false;
     for i in 0..bytes.len() {

@@ -3,10 +3,10 @@ use Rattle.std.specs.Prelude.{ℕ, List, [], ◌∷◌, ℤ, pos, negsuc, get_or
 use Rattle.std.proofs.Math.Seq.{slice}
 use Rattle.std.specs.Float.{binary32}
 use Rattle.std.specs.Float.Ieee.{of_int}
-use Rattle.magnitude.specs.Magnitude.{magnitudeOf}
-use Rattle.timing.specs.Floats.{halfF}
-use Rattle.timing.specs.Turns.{quarterTurns}
-use Rattle.slotter.specs.Bursts.{BuilderReply, syncBurst, normalBurst}
+use Rattle.magnitude.specs.Magnitude.{magnitude_of}
+use Rattle.timing.specs.Floats.{half_f}
+use Rattle.timing.specs.Turns.{quarter_turns}
+use Rattle.slotter.specs.Bursts.{BuilderReply, sync_burst, normal_burst}
 
 -- the bursts with zero blocks
 pub data ZeroBurst : Type 0 where
@@ -36,15 +36,15 @@ f32 z = of_int binary32 z
 
 -- what the builders' definitions give for zero blocks
 unfoldable pub burst : ZeroBurst → BuilderReply
-burst sync = syncBurst (replicate 120 0) (replicate 30 0) (replicate 216 0)
-burst normal1 = normalBurst 1 (replicate 216 0) (replicate 30 0) (replicate 216 0)
-burst normal2 = normalBurst 2 (replicate 216 0) (replicate 30 0) (replicate 216 0)
+burst sync = sync_burst (replicate 120 0) (replicate 30 0) (replicate 216 0)
+burst normal1 = normal_burst 1 (replicate 216 0) (replicate 30 0) (replicate 216 0)
+burst normal2 = normal_burst 2 (replicate 216 0) (replicate 30 0) (replicate 216 0)
 
 unfoldable pub computed : Figure → Value
 computed (window sent first sum bits) = adjusted (get_or (burst sent).sums 0 (pos 0)) (slice 12 14 (burst sent).bits)
 computed (window sent last sum bits) = adjusted (get_or (burst sent).sums 1 (pos 0)) (slice 498 500 (burst sent).bits)
-computed (magnitude re im r) = float (magnitudeOf re im)
-computed (timing i q r) = float (quarterTurns i q)
+computed (magnitude re im r) = float (magnitude_of re im)
+computed (timing i q r) = float (quarter_turns i q)
 
 unfoldable pub stated : Figure → Value
 stated (window sent w sum bits) = adjusted sum bits
@@ -60,7 +60,7 @@ figures =
     ∷ window normal2 last (pos 115) (1 ∷ 1 ∷ [])
     ∷ magnitude (f32 (pos 3)) (f32 (pos 4)) (f32 (pos 5))
     ∷ magnitude (f32 (pos 0)) (f32 (pos 0)) (f32 (pos 0))
-    ∷ timing (f32 (pos 1)) (f32 (pos 1)) halfF
+    ∷ timing (f32 (pos 1)) (f32 (pos 1)) half_f
     ∷ timing (f32 (negsuc 0)) (f32 (pos 0)) (f32 (pos 2))
     ∷ timing (f32 (pos 0)) (f32 (negsuc 0)) (f32 (pos 3))
     ∷ timing (f32 (pos 0)) (f32 (pos 0)) (f32 (pos 0))

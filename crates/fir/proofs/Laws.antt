@@ -9,66 +9,66 @@ use lib.Ieee.{Float}
 use Rattle.dsp_types.specs.declared.ComplexSample.{ComplexSample}
 use Rattle.dsp_types.specs.Samples.{silence, ago}
 use Rattle.dsp_types.proofs.RingLaws.{Agree}
-use Rattle.fir.specs.Fir.{termOf, laneUpTo, lane_of, firOf, filterOf, lineAfter, outsOf, samplesOf, startWith, reOf, imOf}
+use Rattle.fir.specs.Fir.{term_of, lane_up_to, lane_of, fir_of, filter_of, line_after, outs_of, samples_of, start_with, re_of, im_of}
 
 -- ---- the filter reads the newest 32 and no other
 
-term-cong : {f g : ℕ → Float} → Agree 32 f g → (k : ℕ) → k < 16 → termOf f k ≡ termOf g k
-unfolding termOf
-term-cong a k h = rw (a (15 - k) (omega arith), a (16 + k) (omega arith))
+term_cong : {f g : ℕ → Float} → Agree 32 f g → (k : ℕ) → k < 16 → term_of f k ≡ term_of g k
+unfolding term_of
+term_cong a k h = rw (a (15 - k) (omega arith), a (16 + k) (omega arith))
 
-lane-cong : {f g : ℕ → Float} → Agree 32 f g → (v t : ℕ) → v < 4 → t ≤ 4 → laneUpTo f v t ≡ laneUpTo g v t
-unfolding laneUpTo
-lane-cong a v zero h k = refl
-lane-cong a v (suc t) h k = rw (lane-cong a v t h (omega arith), term-cong a (v + 4 * t) (omega arith))
+lane_cong : {f g : ℕ → Float} → Agree 32 f g → (v t : ℕ) → v < 4 → t ≤ 4 → lane_up_to f v t ≡ lane_up_to g v t
+unfolding lane_up_to
+lane_cong a v zero h k = refl
+lane_cong a v (suc t) h k = rw (lane_cong a v t h (omega arith), term_cong a (v + 4 * t) (omega arith))
 
-pub fir-cong : {f g : ℕ → Float} → Agree 32 f g → firOf f ≡ firOf g
-unfolding firOf lane_of
-fir-cong a =
+pub fir_cong : {f g : ℕ → Float} → Agree 32 f g → fir_of f ≡ fir_of g
+unfolding fir_of lane_of
+fir_cong a =
     rw (
-      lane-cong a 0 4 (omega arith) (omega arith),
-      lane-cong a 1 4 (omega arith) (omega arith),
-      lane-cong a 2 4 (omega arith) (omega arith),
-      lane-cong a 3 4 (omega arith) (omega arith),
+      lane_cong a 0 4 (omega arith) (omega arith),
+      lane_cong a 1 4 (omega arith) (omega arith),
+      lane_cong a 2 4 (omega arith) (omega arith),
+      lane_cong a 3 4 (omega arith) (omega arith),
     )
 
-pub filter-cong : {f g : ℕ → ComplexSample} → Agree 32 f g → filterOf f ≡ filterOf g
-unfolding filterOf
-filter-cong a =
+pub filter_cong : {f g : ℕ → ComplexSample} → Agree 32 f g → filter_of f ≡ filter_of g
+unfolding filter_of
+filter_cong a =
     λ i. record {
-      re = fir-cong (λ d k. ap (λ (s : ComplexSample). s.re) (a d k)) i;
-      im = fir-cong (λ d k. ap (λ (s : ComplexSample). s.im) (a d k)) i;
+      re = fir_cong (λ d k. ap (λ (s : ComplexSample). s.re) (a d k)) i;
+      im = fir_cong (λ d k. ap (λ (s : ComplexSample). s.im) (a d k)) i;
     }
 
 -- ---- blocks of samples
 
-pub line-append : (line xs ys : List ComplexSample) → lineAfter line (xs ++ ys) ≡ lineAfter (lineAfter line xs) ys
-unfolding lineAfter
-line-append line [] ys = refl
-line-append line (x ∷ xs) ys = line-append (take 32 (x ∷ line)) xs ys
+pub line_append : (line xs ys : List ComplexSample) → line_after line (xs ++ ys) ≡ line_after (line_after line xs) ys
+unfolding line_after
+line_append line [] ys = refl
+line_append line (x ∷ xs) ys = line_append (take 32 (x ∷ line)) xs ys
 
-pub outs-append : (line xs ys : List ComplexSample) → outsOf line (xs ++ ys) ≡ outsOf line xs ++ outsOf (lineAfter line xs) ys
-unfolding outsOf lineAfter
-outs-append line [] ys = refl
-outs-append line (x ∷ xs) ys = ap (λ (l : List ComplexSample). filterOf (ago silence (x ∷ line)) ∷ l) (outs-append (take 32 (x ∷ line)) xs ys)
+pub outs_append : (line xs ys : List ComplexSample) → outs_of line (xs ++ ys) ≡ outs_of line xs ++ outs_of (line_after line xs) ys
+unfolding outs_of line_after
+outs_append line [] ys = refl
+outs_append line (x ∷ xs) ys = ap (λ (l : List ComplexSample). filter_of (ago silence (x ∷ line)) ∷ l) (outs_append (take 32 (x ∷ line)) xs ys)
 
-pub length-outs : (line xs : List ComplexSample) → length (outsOf line xs) ≡ length xs
-unfolding outsOf
-length-outs line [] = refl
-length-outs line (x ∷ xs) = ap suc (length-outs (take 32 (x ∷ line)) xs)
+pub length_outs : (line xs : List ComplexSample) → length (outs_of line xs) ≡ length xs
+unfolding outs_of
+length_outs line [] = refl
+length_outs line (x ∷ xs) = ap suc (length_outs (take 32 (x ∷ line)) xs)
 
 -- the samples of their parts
-pub samples-parts : (xs : List ComplexSample) → samplesOf (reOf xs) (imOf xs) ≡ xs
-unfolding samplesOf
-samples-parts [] = refl
-samples-parts (x ∷ xs) = ap (λ (l : List ComplexSample). x ∷ l) (samples-parts xs)
+pub samples_parts : (xs : List ComplexSample) → samples_of (re_of xs) (im_of xs) ≡ xs
+unfolding samples_of
+samples_parts [] = refl
+samples_parts (x ∷ xs) = ap (λ (l : List ComplexSample). x ∷ l) (samples_parts xs)
 
 -- ---- the start of a buffer
 
 -- a piece more
-pub start-part : (xs ys out : List Float) (i : ℕ) → length xs ≡ i
-    → take i (startWith xs out) ++ startWith ys (drop i (startWith xs out)) ≡ startWith (xs ++ ys) out
-unfolding startWith
-start-part xs ys out i e =
+pub start_part : (xs ys out : List Float) (i : ℕ) → length xs ≡ i
+    → take i (start_with xs out) ++ start_with ys (drop i (start_with xs out)) ≡ start_with (xs ++ ys) out
+unfolding start_with
+start_part xs ys out i e =
     rw (take_at xs (drop (length xs) out) i e, drop_at xs (drop (length xs) out) i e, drop-drop (length ys) (length xs) out, length-append xs ys)
     (sym (append_assoc xs ys (drop (length xs + length ys) out)))

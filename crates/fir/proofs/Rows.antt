@@ -9,11 +9,11 @@ use lib.ListN.{get_or, length, set, take, drop, replicate, get_or-replicate, len
 use lib.Seq.{drop-cons, drop-drop, take_all, get_or_at, get_or-drop, get_or-set_same, get_or-set_other, set_at, append_snoc}
 use lib.Ieee.{Float, binary32, add, mul, nan}
 use Rattle.dsp_types.specs.declared.ComplexSample.{ComplexSample}
-use Rattle.dsp_types.specs.Samples.{zeroF, silence, ago}
+use Rattle.dsp_types.specs.Samples.{zero_f, silence, ago}
 use Rattle.dsp_types.specs.Ring.{newest}
-use Rattle.dsp_types.proofs.RingLaws.{Agree, oneLater, le-or-lt, newest-later, newest-at}
-use Rattle.fir.specs.Fir.{taps, termOf, laneUpTo, lane_of, firOf, filterOf, in_row, rowOuts}
-use Rattle.fir.proofs.Laws.{filter-cong}
+use Rattle.dsp_types.proofs.RingLaws.{Agree, one_later, le_or_lt, newest_later, newest_at}
+use Rattle.fir.specs.Fir.{taps, term_of, lane_up_to, lane_of, fir_of, filter_of, in_row, row_outs}
+use Rattle.fir.proofs.Laws.{filter_cong}
 
 -- a part of a row up to its end
 pub rest : (row : List Float) (n : ℕ) → take (length row - n) (drop n row) ≡ drop n row
@@ -24,18 +24,18 @@ rest row n = take_all (length row - n) (drop n row) (rw (length-drop n row) (ome
 -- lanes below v have one tap more than t, the others t
 pub record Lanes (row : List Float) (t v : ℕ) (sum : List Float) : Type 0 where
   pub four : length sum ≡ 4
-  pub more : (w : ℕ) → w < v → get_or sum w nan ≡ laneUpTo (in_row row) w (suc t)
-  pub same : (w : ℕ) → v ≤ w → w < 4 → get_or sum w nan ≡ laneUpTo (in_row row) w t
+  pub more : (w : ℕ) → w < v → get_or sum w nan ≡ lane_up_to (in_row row) w (suc t)
+  pub same : (w : ℕ) → v ≤ w → w < 4 → get_or sum w nan ≡ lane_up_to (in_row row) w t
 
-pub lanes_start : (row : List Float) → Lanes row 0 0 (replicate 4 zeroF)
-unfolding laneUpTo
-lanes_start row = record { four = refl; more = λ w k. absurd (omega arith); same = λ w k l. get_or-replicate 4 w zeroF nan l }
+pub lanes_start : (row : List Float) → Lanes row 0 0 (replicate 4 zero_f)
+unfolding lane_up_to
+lanes_start row = record { four = refl; more = λ w k. absurd (omega arith); same = λ w k l. get_or-replicate 4 w zero_f nan l }
 
 -- what tap v + 4t adds
-term-row : (row : List Float) (k : ℕ) → k < 16
-    → mul binary32 (add binary32 (get_or row (16 + k) nan) (get_or row (15 - k) nan)) (get_or taps k nan) ≡ termOf (in_row row) k
-unfolding termOf in_row
-term-row row k h =
+term_row : (row : List Float) (k : ℕ) → k < 16
+    → mul binary32 (add binary32 (get_or row (16 + k) nan) (get_or row (15 - k) nan)) (get_or taps k nan) ≡ term_of (in_row row) k
+unfolding term_of in_row
+term_row row k h =
     let newer-place : 31 - (15 - k) ≡ 16 + k = omega arith in
     let older-place : 31 - (16 + k) ≡ 15 - k = omega arith in
     rw (newer-place, older-place)
@@ -44,9 +44,9 @@ module _ (row : List Float) (t v : ℕ) (sum : List Float) (h : t < 4) (k : v < 
   added : Float
   added = add binary32 (get_or sum v nan) (mul binary32 (add binary32 (get_or row (16 + (v + 4 * t)) nan) (get_or row (15 - (v + 4 * t)) nan)) (get_or taps (v + 4 * t) nan))
 
-  lane-more : added ≡ laneUpTo (in_row row) v (suc t)
-  unfolding added laneUpTo
-  lane-more = rw (term-row row (v + 4 * t) (omega arith), a.same v (omega arith) k)
+  lane_more : added ≡ lane_up_to (in_row row) v (suc t)
+  unfolding added lane_up_to
+  lane_more = rw (term_row row (v + 4 * t) (omega arith), a.same v (omega arith) k)
 
   -- a turn of the inner loop
   pub lanes_step : Lanes row t (v + 1) (set sum v (add binary32 (get_or sum v nan) (mul binary32 (add binary32 (get_or row (16 + (v + 4 * t)) nan) (get_or row (15 - (v + 4 * t)) nan)) (get_or taps (v + 4 * t) nan))))
@@ -55,9 +55,9 @@ module _ (row : List Float) (t v : ℕ) (sum : List Float) (h : t < 4) (k : v < 
       record {
         four = length-set sum v added ∙ a.four;
         more = λ w l. ⊎_elim
-            (λ (p : v ≤ w). let e : w ≡ v = omega arith in rw e (get_or-set_same sum v added nan (omega (arith, a.four)) ∙ lane-more))
+            (λ (p : v ≤ w). let e : w ≡ v = omega arith in rw e (get_or-set_same sum v added nan (omega (arith, a.four)) ∙ lane_more))
             (λ (p : w < v). get_or-set_other sum v w added nan (λ e. omega arith) ∙ a.more w p)
-            (le-or-lt v w);
+            (le_or_lt v w);
         same = λ w l m. get_or-set_other sum v w added nan (λ e. omega arith) ∙ a.same w (omega arith) m;
       }
 
@@ -67,8 +67,8 @@ lanes_next row t v sum h a =
     record { four = a.four; more = λ w k. absurd (omega arith); same = λ w k l. rw (add-one t) (a.more w (omega arith)) }
 
 pub lanes_end : (row : List Float) (t v : ℕ) (sum : List Float) → t ≡ 4 → v ≡ 0 → Lanes row t v sum
-    → add binary32 (add binary32 (add binary32 (get_or sum 0 nan) (get_or sum 1 nan)) (get_or sum 2 nan)) (get_or sum 3 nan) ≡ firOf (in_row row)
-unfolding firOf lane_of
+    → add binary32 (add binary32 (add binary32 (get_or sum 0 nan) (get_or sum 1 nan)) (get_or sum 2 nan)) (get_or sum 3 nan) ≡ fir_of (in_row row)
+unfolding fir_of lane_of
 lanes_end row t v sum e z a =
     rw (
       a.same 0 (omega arith) (omega arith),
@@ -80,58 +80,58 @@ lanes_end row t v sum e z a =
 
 -- ---- a block
 
-pub length-row : (n : ℕ) (row : List Float) → length (rowOuts n row) ≡ n
-unfolding rowOuts
-length-row zero row = refl
-length-row (suc n) row = ap suc (length-row n (drop 1 row))
+pub length_row : (n : ℕ) (row : List Float) → length (row_outs n row) ≡ n
+unfolding row_outs
+length_row zero row = refl
+length_row (suc n) row = ap suc (length_row n (drop 1 row))
 
 -- one more output
-outs-suc : (n : ℕ) (row : List Float) → rowOuts (suc n) row ≡ rowOuts n row ++ (firOf (in_row (drop n row)) ∷ [])
-unfolding rowOuts
-outs-suc zero row = refl
-outs-suc (suc n) row = ap (λ (l : List Float). firOf (in_row row) ∷ l) (outs-suc n (drop 1 row) ∙ rw (drop-drop n 1 row, one-add n))
+outs_suc : (n : ℕ) (row : List Float) → row_outs (suc n) row ≡ row_outs n row ++ (fir_of (in_row (drop n row)) ∷ [])
+unfolding row_outs
+outs_suc zero row = refl
+outs_suc (suc n) row = ap (λ (l : List Float). fir_of (in_row row) ∷ l) (outs_suc n (drop 1 row) ∙ rw (drop-drop n 1 row, one-add n))
 
 -- a turn of the loop over a block's outputs
-pub block-step : (row out : List Float) (n : ℕ) (x : Float) → n < length out → x ≡ firOf (in_row (drop n row))
-    → set (rowOuts n row ++ drop n out) n x ≡ rowOuts (n + 1) row ++ drop (n + 1) out
-block-step row out n x h e =
-    rw (add-one n, drop-cons out n nan h, outs-suc n row, ← e)
-    (set_at (rowOuts n row) (get_or out n nan) (drop (suc n) out) x n (length-row n row) ∙ sym (append_snoc (rowOuts n row) x (drop (suc n) out)))
+pub block_step : (row out : List Float) (n : ℕ) (x : Float) → n < length out → x ≡ fir_of (in_row (drop n row))
+    → set (row_outs n row ++ drop n out) n x ≡ row_outs (n + 1) row ++ drop (n + 1) out
+block_step row out n x h e =
+    rw (add-one n, drop-cons out n nan h, outs_suc n row, ← e)
+    (set_at (row_outs n row) (get_or out n nan) (drop (suc n) out) x n (length_row n row) ∙ sym (append_snoc (row_outs n row) x (drop (suc n) out)))
 
 -- ---- a sample
 
 -- a row of 32 without its oldest element and with x behind it
-pub row-later : (row : List Float) (x : Float) → length row ≡ 32 → Agree 32 (in_row (drop 1 row ++ (x ∷ []))) (oneLater x (in_row row))
+pub row_later : (row : List Float) (x : Float) → length row ≡ 32 → Agree 32 (in_row (drop 1 row ++ (x ∷ []))) (one_later x (in_row row))
 unfolding in_row
-row-later row x h zero k = get_or_at (drop 1 row) x [] nan 31 (length-drop 1 row ∙ omega arith)
-row-later row x h (suc d) k =
+row_later row x h zero k = get_or_at (drop 1 row) x [] nan 31 (length-drop 1 row ∙ omega arith)
+row_later row x h (suc d) k =
     let e : 1 + (31 - suc d) ≡ 31 - d = omega arith in
     get_or-append (drop 1 row) (x ∷ []) nan (31 - suc d) (rw (length-drop 1 row) (omega arith)) ∙ get_or-drop 1 row (31 - suc d) nan ∙ rw e
 
 -- a copy of it without its oldest element, with x behind it
 pub shift : (row : List Float) (x : Float) → length row ≡ 32
-    → set (take (length row - 1) (drop 1 row) ++ drop (0 + length (take (length row - 1) (drop 1 row))) (replicate 32 zeroF)) 31 x ≡ drop 1 row ++ (x ∷ [])
+    → set (take (length row - 1) (drop 1 row) ++ drop (0 + length (take (length row - 1) (drop 1 row))) (replicate 32 zero_f)) 31 x ≡ drop 1 row ++ (x ∷ [])
 shift row x h =
     let n : length (drop 1 row) ≡ 31 = length-drop 1 row ∙ omega arith in
-    rw (rest row 1, n) (set_at (drop 1 row) zeroF [] x 31 n)
+    rw (rest row 1, n) (set_at (drop 1 row) zero_f [] x 31 n)
 
 -- the samples of two rows
-abbrev pub inRows : List Float → List Float → ℕ → ComplexSample
-inRows re im j = record { re = in_row re j; im = in_row im j }
+abbrev pub in_rows : List Float → List Float → ℕ → ComplexSample
+in_rows re im j = record { re = in_row re j; im = in_row im j }
 
 module _ (re im : List Float) (x : ComplexSample) (v : length re ≡ 32) (w : length im ≡ 32) where
-  pub rows-later : Agree 32 (inRows (drop 1 re ++ (x.re ∷ [])) (drop 1 im ++ (x.im ∷ []))) (oneLater x (inRows re im))
-  rows-later zero k = λ i. record { re = row-later re x.re v zero k i; im = row-later im x.im w zero k i }
-  rows-later (suc j) k = λ i. record { re = row-later re x.re v (suc j) k i; im = row-later im x.im w (suc j) k i }
+  pub rows_later : Agree 32 (in_rows (drop 1 re ++ (x.re ∷ [])) (drop 1 im ++ (x.im ∷ []))) (one_later x (in_rows re im))
+  rows_later zero k = λ i. record { re = row_later re x.re v zero k i; im = row_later im x.im w zero k i }
+  rows_later (suc j) k = λ i. record { re = row_later re x.re v (suc j) k i; im = row_later im x.im w (suc j) k i }
 
   -- the line so kept, as a list
-  pub rows-line : newest 32 (inRows (drop 1 re ++ (x.re ∷ [])) (drop 1 im ++ (x.im ∷ []))) ≡ take 32 (x ∷ newest 32 (inRows re im))
-  rows-line = newest-later 32 x rows-later
+  pub rows_line : newest 32 (in_rows (drop 1 re ++ (x.re ∷ [])) (drop 1 im ++ (x.im ∷ []))) ≡ take 32 (x ∷ newest 32 (in_rows re im))
+  rows_line = newest_later 32 x rows_later
 
   -- the filter over it is the filter over the list
-  pub rows_out : filterOf (inRows (drop 1 re ++ (x.re ∷ [])) (drop 1 im ++ (x.im ∷ []))) ≡ filterOf (ago silence (x ∷ newest 32 (inRows re im)))
-  rows_out = filter-cong (λ d k. rows-later d k ∙ each d k)
+  pub rows_out : filter_of (in_rows (drop 1 re ++ (x.re ∷ [])) (drop 1 im ++ (x.im ∷ []))) ≡ filter_of (ago silence (x ∷ newest 32 (in_rows re im)))
+  rows_out = filter_cong (λ d k. rows_later d k ∙ each d k)
     where
-      each : (d : ℕ) → d < 32 → oneLater x (inRows re im) d ≡ ago silence (x ∷ newest 32 (inRows re im)) d
+      each : (d : ℕ) → d < 32 → one_later x (in_rows re im) d ≡ ago silence (x ∷ newest 32 (in_rows re im)) d
       each zero k = refl
-      each (suc d) k = sym (newest-at 32 (inRows re im) silence d (omega arith))
+      each (suc d) k = sym (newest_at 32 (in_rows re im) silence d (omega arith))

@@ -3,7 +3,7 @@
 
 ghost use Rattle.std.specs.Prelude.{◌≡◌, [], ◌∷◌, ◌++◌, ◌+◌, ◌-◌, ◌<◌, ◌≤◌, min, length, take, drop, replicate};
 ghost use Rattle.dsp_types.specs.Samples.{silence, ago};
-ghost use Rattle.fir.specs.Fir.{firOf, filterOf, in_row, line_of, rowOuts, filterRow, startWith, lineAfter, outsOf, block_of, reOf, imOf};
+ghost use Rattle.fir.specs.Fir.{fir_of, filter_of, in_row, line_of, row_outs, filter_row, start_with, line_after, outs_of, block_of, re_of, im_of};
 
 use dsp_types::{ComplexSample, least};
 
@@ -45,7 +45,7 @@ pub struct Filtered {
 // local the compiler works on four at once.
 fn filter_part(row: &[f32]) -> f32
     requires { 31 < length row.now }
-    ensures { result ≡ firOf (in_row row.now) }
+    ensures { result ≡ fir_of (in_row row.now) }
 {
     let taps = CHANNEL_FILTER_TAPS;
     let mut sum = [0.0f32; 4];
@@ -71,7 +71,7 @@ fn room(row: usize, out: usize) -> usize
 // One part of a block. The row holds 31 old samples and the block, oldest first; output n has row[n + 31] as
 // its newest sample. What the row is too short for is left as it was.
 fn filter_block(row: &[f32], out: &mut [f32])
-    ensures { out.new ≡ filterRow row.now out.old }
+    ensures { out.new ≡ filter_row row.now out.old }
 {
     let count = room(row.len(), out.len());
     for n in 0..count {
@@ -104,7 +104,7 @@ fn shifted(line: &[f32], x: f32) -> [f32; 32]
 fn block_part(line: &[f32], block: &[f32], out: &mut [f32]) -> [f32; 32]
     requires { (length line.now ≡ 32) × ((length block.now ≤ 1024) × (length block.now ≤ length out.old)) }
     ensures value { result ≡ drop (length block.now) (line.now ++ block.now) }
-    ensures out_after { out.new ≡ startWith (rowOuts (length block.now) (drop 1 (line.now ++ block.now))) out.old }
+    ensures out_after { out.new ≡ start_with (row_outs (length block.now) (drop 1 (line.now ++ block.now))) out.old }
 {
     let n = block.len();
     let mut row = [0.0f32; 1056];
@@ -127,7 +127,7 @@ impl FirComplexSym {
     }
 
     pub fn sample(self, in_: ComplexSample) -> Filtered
-        ensures out { result.out ≡ filterOf (ago silence (in_ ∷ line_of self)) }
+        ensures out { result.out ≡ filter_of (ago silence (in_ ∷ line_of self)) }
         ensures line { line_of result.line ≡ take 32 (in_ ∷ line_of self) }
     {
         let re = shifted(&self.re, in_.re);
@@ -152,9 +152,9 @@ impl FirComplexSym {
         out_im: &mut [f32],
     ) -> FirComplexSym
         ensures { let xs = block_of re.now im.now out_re.old out_im.old in
-            (line_of result ≡ lineAfter (line_of self) xs)
-            × ((out_re.new ≡ startWith (reOf (outsOf (line_of self) xs)) out_re.old)
-            × (out_im.new ≡ startWith (imOf (outsOf (line_of self) xs)) out_im.old)) }
+            (line_of result ≡ line_after (line_of self) xs)
+            × ((out_re.new ≡ start_with (re_of (outs_of (line_of self) xs)) out_re.old)
+            × (out_im.new ≡ start_with (im_of (outs_of (line_of self) xs)) out_im.old)) }
     {
         let given = least(re.len(), im.len());
         let room = least(out_re.len(), out_im.len());

@@ -2,8 +2,8 @@
 #![tactic(auto)]
 
 ghost use Rattle.std.specs.Prelude.{◌≡◌, ◌+◌, ◌≤◌, ◌%◌, length, replicate};
-ghost use Rattle.dsp_types.specs.Samples.{zeroF, ago};
-ghost use Rattle.history.specs.History.{heldIn, heldAfter};
+ghost use Rattle.dsp_types.specs.Samples.{zero_f, ago};
+ghost use Rattle.history.specs.History.{held_in, held_after};
 
 use dsp_types::least;
 
@@ -25,7 +25,7 @@ fn next(at: usize) -> usize
 
 // The element `delay` steps ago of a ring whose newest stands at `at`. A delay counts modulo 2,048.
 pub fn recall(ring: &[f32; 2048], at: usize, delay: usize) -> f32
-    ensures { result ≡ ago zeroF (heldIn ring.now at) (delay % 2048) }
+    ensures { result ≡ ago zero_f (held_in ring.now at) (delay % 2048) }
 {
     ring[(at % 2048 + 2048 - delay % 2048) % 2048]
 }
@@ -35,7 +35,7 @@ pub fn recall(ring: &[f32; 2048], at: usize, delay: usize) -> f32
 fn store_run(ring: &mut [f32], at: usize, from: &[f32]) -> usize
     requires { (length ring.old ≡ 2048) × ((at % 2048 + 1) % 2048 + length from.now ≤ 2048) }
     ensures value { result ≡ (at % 2048 + length from.now) % 2048 }
-    ensures result_after { heldIn ring.new result ≡ heldAfter (heldIn ring.old at) from.now }
+    ensures result_after { held_in ring.new result ≡ held_after (held_in ring.old at) from.now }
 {
     let start = next(at);
     for n in 0..from.len() {
@@ -48,7 +48,7 @@ fn store_run(ring: &mut [f32], at: usize, from: &[f32]) -> usize
 fn store_in(ring: &mut [f32], at: usize, from: &[f32]) -> usize
     requires { length ring.old ≡ 2048 }
     ensures value { result ≡ (at % 2048 + length from.now) % 2048 }
-    ensures result_after { heldIn ring.new result ≡ heldAfter (heldIn ring.old at) from.now }
+    ensures result_after { held_in ring.new result ≡ held_after (held_in ring.old at) from.now }
 {
     let mut newest = at % 2048;
     let mut done: usize = 0;
@@ -63,7 +63,7 @@ fn store_in(ring: &mut [f32], at: usize, from: &[f32]) -> usize
 // Writes `from`, oldest first, into a ring whose newest stands at `at`, and returns where the newest then stands.
 pub fn store(ring: &mut [f32; 2048], at: usize, from: &[f32]) -> usize
     ensures index { result ≡ (at % 2048 + length from.now) % 2048 }
-    ensures held { heldIn ring.new result ≡ heldAfter (heldIn ring.old at) from.now }
+    ensures held { held_in ring.new result ≡ held_after (held_in ring.old at) from.now }
 {
     store_in(ring, at, from)
 }
@@ -71,7 +71,7 @@ pub fn store(ring: &mut [f32; 2048], at: usize, from: &[f32]) -> usize
 impl History {
     // Zeros, wherever the newest stands.
     pub fn new() -> History
-        ensures { (result.re ≡ replicate 2048 zeroF) × (result.im ≡ replicate 2048 zeroF) × (result.abs ≡ replicate 2048 zeroF) }
+        ensures { (result.re ≡ replicate 2048 zero_f) × (result.im ≡ replicate 2048 zero_f) × (result.abs ≡ replicate 2048 zero_f) }
     {
         History {
             re: [0.0; 2048],

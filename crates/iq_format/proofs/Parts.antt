@@ -20,7 +20,7 @@ use borrow.Author.Tests.{lt-ltb, le-ltb}
 use Rattle.dsp_types.proofs.Signs.{minus}
 use Rattle.iq_format.specs.declared.Format.{Format}
 use Rattle.iq_format.specs.declared.Format.TheVariants.{Cf32, Cs16, Cu8}
-use Rattle.iq_format.specs.Parts.{word_of, width, signed16, part_of, firstParts, parts_in, word_bytes, partBytes}
+use Rattle.iq_format.specs.Parts.{word_of, width, signed16, part_of, first_parts, parts_in, word_bytes, part_bytes}
 
 -- ---- NaN
 
@@ -34,8 +34,8 @@ pub nan_pattern : (x : Float) → ne x x ≡ true → 0x7fc0_0000 ≡ to_bits bi
 unfolding to_bits
 nan_pattern x e = sym (ap (to_bits binary32) (differs_from_itself x (subst T (sym e) tt)))
 
-pub nan-float : (p : ℕ) → 0x7f80_0000 < p % 0x8000_0000 → nan ≡ of_bits binary32 p
-nan-float p h = only_nan (of_bits binary32 p) (sym (nan_bits_is binary32 p) ∙ nan_bits_above binary32 p ∙ lt-ltb 0x7f80_0000 (p % 0x8000_0000) h)
+pub nan_float : (p : ℕ) → 0x7f80_0000 < p % 0x8000_0000 → nan ≡ of_bits binary32 p
+nan_float p h = only_nan (of_bits binary32 p) (sym (nan_bits_is binary32 p) ∙ nan_bits_above binary32 p ∙ lt-ltb 0x7f80_0000 (p % 0x8000_0000) h)
 
 -- ---- parts read
 
@@ -49,52 +49,52 @@ module _ (w : ℕ) (l : 0x8000 ≤ w) (h : w < 0x1_0000) where
   turned : negsuc 0 -ℤ to_z w16 (0xffff - w) ≡ negsuc (0xffff - w)
   turned = ap (λ (z : ℤ). negsuc 0 -ℤ z) (to_z_pos w16 (0xffff - w) (omega arith)) ∙ minus (0xffff - w)
 
-  pub signed-fits : SFits w16 (negsuc 0 -ℤ to_z w16 (0xffff - w))
-  signed-fits = rw turned (record { sfits = omega arith })
+  pub signed_fits : SFits w16 (negsuc 0 -ℤ to_z w16 (0xffff - w))
+  signed_fits = rw turned (record { sfits = omega arith })
 
   pub signed_below : to_z w16 (of_z w16 (negsuc 0 -ℤ to_z w16 (0xffff - w))) ≡ signed16 w
   unfolding signed16
-  signed_below = to_z-of_z w16 _ signed-fits ∙ turned ∙ rw (le-ltb w 0x8000 l, lt-ltb w 0x1_0000 h) (ap negsuc (omega arith))
+  signed_below = to_z-of_z w16 _ signed_fits ∙ turned ∙ rw (le-ltb w 0x8000 l, lt-ltb w 0x1_0000 h) (ap negsuc (omega arith))
 
 -- the word of part n
-abbrev pub partWord : Format → List ℕ → ℕ → ℕ
-partWord format bytes n = word_of (take (width format) (drop (width format * n) bytes))
+abbrev pub part_word : Format → List ℕ → ℕ → ℕ
+part_word format bytes n = word_of (take (width format) (drop (width format * n) bytes))
 
-next-byte : (k i j : ℕ) (bytes : List ℕ) → i < length bytes → suc i ≡ j → take (suc k) (drop i bytes) ≡ get_or bytes i 0 ∷ take k (drop j bytes)
-next-byte k i j bytes h e = rw (← e, drop-cons bytes i 0)
+next_byte : (k i j : ℕ) (bytes : List ℕ) → i < length bytes → suc i ≡ j → take (suc k) (drop i bytes) ≡ get_or bytes i 0 ∷ take k (drop j bytes)
+next_byte k i j bytes h e = rw (← e, drop-cons bytes i 0)
 
-pub word-of-four : (n : ℕ) (bytes : List ℕ) → 4 * n + 3 < length bytes
-    → partWord Cf32 bytes n ≡ word_of (get_or bytes (4 * n) 0 ∷ get_or bytes (4 * n + 1) 0 ∷ get_or bytes (4 * n + 2) 0 ∷ get_or bytes (4 * n + 3) 0 ∷ [])
-word-of-four n bytes h =
+pub word_of_four : (n : ℕ) (bytes : List ℕ) → 4 * n + 3 < length bytes
+    → part_word Cf32 bytes n ≡ word_of (get_or bytes (4 * n) 0 ∷ get_or bytes (4 * n + 1) 0 ∷ get_or bytes (4 * n + 2) 0 ∷ get_or bytes (4 * n + 3) 0 ∷ [])
+word_of_four n bytes h =
     rw (
-      next-byte 3 (4 * n) (4 * n + 1) bytes (omega arith) (omega arith),
-      next-byte 2 (4 * n + 1) (4 * n + 2) bytes (omega arith) (omega arith),
-      next-byte 1 (4 * n + 2) (4 * n + 3) bytes (omega arith) (omega arith),
-      next-byte 0 (4 * n + 3) (4 * n + 4) bytes (omega arith) (omega arith),
+      next_byte 3 (4 * n) (4 * n + 1) bytes (omega arith) (omega arith),
+      next_byte 2 (4 * n + 1) (4 * n + 2) bytes (omega arith) (omega arith),
+      next_byte 1 (4 * n + 2) (4 * n + 3) bytes (omega arith) (omega arith),
+      next_byte 0 (4 * n + 3) (4 * n + 4) bytes (omega arith) (omega arith),
     )
 
-pub word-of-two : (n : ℕ) (bytes : List ℕ) → 2 * n + 1 < length bytes → partWord Cs16 bytes n ≡ word_of (get_or bytes (2 * n) 0 ∷ get_or bytes (2 * n + 1) 0 ∷ [])
-word-of-two n bytes h = rw (next-byte 1 (2 * n) (2 * n + 1) bytes (omega arith) (omega arith), next-byte 0 (2 * n + 1) (2 * n + 2) bytes (omega arith) (omega arith))
+pub word_of_two : (n : ℕ) (bytes : List ℕ) → 2 * n + 1 < length bytes → part_word Cs16 bytes n ≡ word_of (get_or bytes (2 * n) 0 ∷ get_or bytes (2 * n + 1) 0 ∷ [])
+word_of_two n bytes h = rw (next_byte 1 (2 * n) (2 * n + 1) bytes (omega arith) (omega arith), next_byte 0 (2 * n + 1) (2 * n + 2) bytes (omega arith) (omega arith))
 
-pub word-of-one : (n : ℕ) (bytes : List ℕ) → n < length bytes → partWord Cu8 bytes n ≡ word_of (get_or bytes n 0 ∷ [])
-word-of-one n bytes h = let e : 1 * n ≡ n = omega arith in rw (e, next-byte 0 n (n + 1) bytes h (omega arith))
+pub word_of_one : (n : ℕ) (bytes : List ℕ) → n < length bytes → part_word Cu8 bytes n ≡ word_of (get_or bytes n 0 ∷ [])
+word_of_one n bytes h = let e : 1 * n ≡ n = omega arith in rw (e, next_byte 0 n (n + 1) bytes h (omega arith))
 
-length-first : (format : Format) (m : ℕ) (bytes : List ℕ) → length (firstParts format m bytes) ≡ m
-unfolding firstParts
-length-first format zero bytes = refl
-length-first format (suc m) bytes = ap suc (length-first format m (drop (width format) bytes))
+length_first : (format : Format) (m : ℕ) (bytes : List ℕ) → length (first_parts format m bytes) ≡ m
+unfolding first_parts
+length_first format zero bytes = refl
+length_first format (suc m) bytes = ap suc (length_first format m (drop (width format) bytes))
 
-first-at : (format : Format) (m n : ℕ) (bytes : List ℕ) → n < m → get_or (firstParts format m bytes) n nan ≡ part_of format (partWord format bytes n)
-unfolding firstParts
-first-at format zero n bytes h = absurd (omega arith)
-first-at format (suc m) zero bytes h = let z : width format * 0 ≡ 0 = omega arith in rw z
-first-at format (suc m) (suc n) bytes h =
+first_at : (format : Format) (m n : ℕ) (bytes : List ℕ) → n < m → get_or (first_parts format m bytes) n nan ≡ part_of format (part_word format bytes n)
+unfolding first_parts
+first_at format zero n bytes h = absurd (omega arith)
+first_at format (suc m) zero bytes h = let z : width format * 0 ≡ 0 = omega arith in rw z
+first_at format (suc m) (suc n) bytes h =
     let w = width format in
     let e : w * suc n ≡ w + w * n = omega (arith, mul-suc w n) in
-    rw (e, ← drop-drop (w * n) w bytes) (first-at format m n (drop w bytes) (omega arith))
+    rw (e, ← drop-drop (w * n) w bytes) (first_at format m n (drop w bytes) (omega arith))
 
-rest-turn : {A : Type 0} (n : ℕ) (parts parts₀ : List A) (x : A) → drop n parts ≡ drop n parts₀ → drop (n + 1) (set parts n x) ≡ drop (n + 1) parts₀
-rest-turn n parts parts₀ x inv = drop-set-lt (n + 1) parts n x (omega arith) ∙ sym (drop-drop 1 n parts) ∙ ap (drop 1) inv ∙ drop-drop 1 n parts₀
+rest_turn : {A : Type 0} (n : ℕ) (parts parts₀ : List A) (x : A) → drop n parts ≡ drop n parts₀ → drop (n + 1) (set parts n x) ≡ drop (n + 1) parts₀
+rest_turn n parts parts₀ x inv = drop-set-lt (n + 1) parts n x (omega arith) ∙ sym (drop-drop 1 n parts) ∙ ap (drop 1) inv ∙ drop-drop 1 n parts₀
 
 -- so many parts are read, and the rest of the buffer is as it was
 pub record Read (format : Format) (bytes : List ℕ) (parts₀ parts : List Float) (n : ℕ) : Type 0 where
@@ -110,16 +110,16 @@ pub read_all : {format : Format} {bytes : List ℕ} {parts₀ parts : List Float
 read_all {format} {bytes} {parts₀} {parts} {n} r = sym (take-append-drop n parts) ∙ (λ i. r.read i ++ r.rest i)
 
 -- a part more
-pub read-turn : {format : Format} {bytes : List ℕ} {parts₀ parts : List Float} {n : ℕ} (x : Float) → n < length bytes / width format → n < length parts
-    → x ≡ part_of format (partWord format bytes n) → Read format bytes parts₀ parts n → Read format bytes parts₀ (set parts n x) (n + 1)
+pub read_turn : {format : Format} {bytes : List ℕ} {parts₀ parts : List Float} {n : ℕ} (x : Float) → n < length bytes / width format → n < length parts
+    → x ≡ part_of format (part_word format bytes n) → Read format bytes parts₀ parts n → Read format bytes parts₀ (set parts n x) (n + 1)
 unfolding parts_in
-read-turn {format} {bytes} {parts₀} {parts} {n} x h l e r = record { same = length-set parts n x ∙ r.same; read = one_more; rest = rest-turn n parts parts₀ x r.rest }
+read_turn {format} {bytes} {parts₀} {parts} {n} x h l e r = record { same = length-set parts n x ∙ r.same; read = one_more; rest = rest_turn n parts parts₀ x r.rest }
   where
     m : ℕ
     m = length bytes / width format
 
-    one_more : take (n + 1) (set parts n x) ≡ take (n + 1) (firstParts format m bytes)
-    one_more = rw (add-one n, take-suc-set parts n x l, take-suc (firstParts format m bytes) n nan (rw length-first h), first-at format m n bytes h, e, r.read)
+    one_more : take (n + 1) (set parts n x) ≡ take (n + 1) (first_parts format m bytes)
+    one_more = rw (add-one n, take-suc-set parts n x l, take-suc (first_parts format m bytes) n nan (rw length_first h), first_at format m n bytes h, e, r.read)
 
 -- ---- which loop is run
 
@@ -134,12 +134,12 @@ room Cs16 count l p e = (omega arith, omega arith)
 room Cu8 count l p e = (omega arith, omega arith)
 
 module _ {format known : Format} (is : format ≡ known) {w count : ℕ} (e : w ≡ width format) where
-  pub loop-room : (l p : ℕ) → count ≡ min (l / w) p → (width known * count ≤ l) × (count ≤ p)
-  loop-room l p c = room known count l p (rw (e, is) at c)
+  pub loop_room : (l p : ℕ) → count ≡ min (l / w) p → (width known * count ≤ l) × (count ≤ p)
+  loop_room l p c = room known count l p (rw (e, is) at c)
 
-  pub loop-parts : (bytes : List ℕ) (parts last : List Float) → count ≡ min (length bytes / w) (length parts) → last ≡ take count (parts_in known bytes) ++ drop count parts
+  pub loop_parts : (bytes : List ℕ) (parts last : List Float) → count ≡ min (length bytes / w) (length parts) → last ≡ take count (parts_in known bytes) ++ drop count parts
       → (count ≡ min (length bytes / width format) (length parts)) × (last ≡ take count (parts_in format bytes) ++ drop count parts)
-  loop-parts bytes parts last c r = (rw e at c, rw is r)
+  loop_parts bytes parts last c r = (rw e at c, rw is r)
 
 -- ---- parts written
 
@@ -157,29 +157,29 @@ module _ (n a b c d : ℕ) (bytes : List ℕ) (h : 4 * n + 3 < length bytes) whe
   front : length (take (4 * n) bytes ++ (a ∷ b ∷ c ∷ d ∷ [])) ≡ 4 * (n + 1)
   front = length-append (take (4 * n) bytes) (a ∷ b ∷ c ∷ d ∷ []) ∙ omega (arith, length-take-le (4 * n) bytes (omega arith))
 
-  four-taken : take (4 * (n + 1)) four ≡ take (4 * n) bytes ++ (a ∷ b ∷ c ∷ d ∷ [])
-  four-taken = rw stored (take_at (take (4 * n) bytes ++ (a ∷ b ∷ c ∷ d ∷ [])) (drop (4 * n + 4) bytes) (4 * (n + 1)) front)
+  four_taken : take (4 * (n + 1)) four ≡ take (4 * n) bytes ++ (a ∷ b ∷ c ∷ d ∷ [])
+  four_taken = rw stored (take_at (take (4 * n) bytes ++ (a ∷ b ∷ c ∷ d ∷ [])) (drop (4 * n + 4) bytes) (4 * (n + 1)) front)
 
-  four-left : drop (4 * (n + 1)) four ≡ drop (4 * n + 4) bytes
-  four-left = rw stored (drop_at (take (4 * n) bytes ++ (a ∷ b ∷ c ∷ d ∷ [])) (drop (4 * n + 4) bytes) (4 * (n + 1)) front)
+  four_left : drop (4 * (n + 1)) four ≡ drop (4 * n + 4) bytes
+  four_left = rw stored (drop_at (take (4 * n) bytes ++ (a ∷ b ∷ c ∷ d ∷ [])) (drop (4 * n + 4) bytes) (4 * (n + 1)) front)
 
-bytes-append : (xs : List Float) (x : Float) → partBytes (xs ++ (x ∷ [])) ≡ partBytes xs ++ word_bytes (to_bits binary32 x)
-unfolding partBytes word_bytes
-bytes-append [] x = refl
-bytes-append (y ∷ xs) x = ap (λ (l : List ℕ). word_bytes (to_bits binary32 y) ++ l) (bytes-append xs x)
+bytes_append : (xs : List Float) (x : Float) → part_bytes (xs ++ (x ∷ [])) ≡ part_bytes xs ++ word_bytes (to_bits binary32 x)
+unfolding part_bytes word_bytes
+bytes_append [] x = refl
+bytes_append (y ∷ xs) x = ap (λ (l : List ℕ). word_bytes (to_bits binary32 y) ++ l) (bytes_append xs x)
 
 -- a word more
 module _ (n w : ℕ) (parts : List Float) (bytes bytes₀ : List ℕ) (h : 4 * n + 3 < length bytes) where
-  abbrev stored-word : List ℕ
-  stored-word = set (set (set (set bytes (4 * n) (w % 0x100)) (4 * n + 1) (w / 0x100 % 0x100)) (4 * n + 2) (w / 0x1_0000 % 0x100)) (4 * n + 3) (w / 0x100_0000)
+  abbrev stored_word : List ℕ
+  stored_word = set (set (set (set bytes (4 * n) (w % 0x100)) (4 * n + 1) (w / 0x100 % 0x100)) (4 * n + 2) (w / 0x1_0000 % 0x100)) (4 * n + 3) (w / 0x100_0000)
 
-  pub word-turn : n < length parts → w ≡ to_bits binary32 (get_or parts n nan) → take (4 * n) bytes ≡ partBytes (take n parts) → take (4 * (n + 1)) stored-word ≡ partBytes (take (n + 1) parts)
+  pub word_turn : n < length parts → w ≡ to_bits binary32 (get_or parts n nan) → take (4 * n) bytes ≡ part_bytes (take n parts) → take (4 * (n + 1)) stored_word ≡ part_bytes (take (n + 1) parts)
   unfolding word_bytes
-  word-turn l e inv =
-      four-taken n _ _ _ _ bytes h ∙ ap (λ (t : List ℕ). t ++ word_bytes w) inv
-      ∙ rw (e) (sym (bytes-append (take n parts) (get_or parts n nan)) ∙ ap partBytes (sym (take-suc parts n nan l)) ∙ ap (λ (m : ℕ). partBytes (take m parts)) (sym (add-one n)))
+  word_turn l e inv =
+      four_taken n _ _ _ _ bytes h ∙ ap (λ (t : List ℕ). t ++ word_bytes w) inv
+      ∙ rw (e) (sym (bytes_append (take n parts) (get_or parts n nan)) ∙ ap part_bytes (sym (take-suc parts n nan l)) ∙ ap (λ (m : ℕ). part_bytes (take m parts)) (sym (add-one n)))
 
-  pub left-turn : drop (4 * n) bytes ≡ drop (4 * n) bytes₀ → drop (4 * (n + 1)) stored-word ≡ drop (4 * (n + 1)) bytes₀
-  left-turn inv =
+  pub left_turn : drop (4 * n) bytes ≡ drop (4 * n) bytes₀ → drop (4 * (n + 1)) stored_word ≡ drop (4 * (n + 1)) bytes₀
+  left_turn inv =
       let m : 4 * (n + 1) ≡ 4 * n + 4 = omega arith in
-      four-left n _ _ _ _ bytes h ∙ sym (drop-drop 4 (4 * n) bytes) ∙ ap (drop 4) inv ∙ drop-drop 4 (4 * n) bytes₀ ∙ ap (λ (k : ℕ). drop k bytes₀) (sym m)
+      four_left n _ _ _ _ bytes h ∙ sym (drop-drop 4 (4 * n) bytes) ∙ ap (drop 4) inv ∙ drop-drop 4 (4 * n) bytes₀ ∙ ap (λ (k : ℕ). drop k bytes₀) (sym m)

@@ -27,19 +27,19 @@ part_of Cs16 w = div binary32 (of_int binary32 (signed16 w)) (of_int binary32 (p
 part_of Cu8 w = div binary32 (sub binary32 (of_int binary32 (pos w)) (div binary32 (of_int binary32 (pos 255)) (of_int binary32 (pos 2)))) (of_int binary32 (pos 128))
 
 -- the first so many parts of bytes
-unfoldable pub firstParts : Format → ℕ → List ℕ → List Float
-firstParts format zero bytes = []
-firstParts format (suc n) bytes = part_of format (word_of (take (width format) bytes)) ∷ firstParts format n (drop (width format) bytes)
+unfoldable pub first_parts : Format → ℕ → List ℕ → List Float
+first_parts format zero bytes = []
+first_parts format (suc n) bytes = part_of format (word_of (take (width format) bytes)) ∷ first_parts format n (drop (width format) bytes)
 
 -- the parts of bytes; those left over that are less than a part are none
 unfoldable pub parts_in : Format → List ℕ → List Float
-parts_in format bytes = firstParts format (length bytes / width format) bytes
+parts_in format bytes = first_parts format (length bytes / width format) bytes
 
 -- the bytes of a word of 32 bits
 unfoldable pub word_bytes : ℕ → List ℕ
 word_bytes w = w % 0x100 ∷ w / 0x100 % 0x100 ∷ w / 0x1_0000 % 0x100 ∷ w / 0x100_0000 ∷ []
 
 -- the bytes of parts
-unfoldable pub partBytes : List Float → List ℕ
-partBytes [] = []
-partBytes (x ∷ xs) = word_bytes (to_bits binary32 x) ++ partBytes xs
+unfoldable pub part_bytes : List Float → List ℕ
+part_bytes [] = []
+part_bytes (x ∷ xs) = word_bytes (to_bits binary32 x) ++ part_bytes xs

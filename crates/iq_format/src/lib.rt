@@ -6,7 +6,7 @@ mod meter;
 ghost use Rattle.std.specs.Prelude.{◌≡◌, [], ◌∷◌, ◌++◌, ◌*◌, ◌/◌, ◌≤◌, min, length, take, drop};
 ghost use Rattle.std.specs.Float.{binary32};
 ghost use Rattle.std.specs.Float.Ieee.{of_bits, to_bits};
-ghost use Rattle.iq_format.specs.Parts.{word_of, width, signed16, part_of, parts_in, partBytes};
+ghost use Rattle.iq_format.specs.Parts.{word_of, width, signed16, part_of, parts_in, part_bytes};
 
 use dsp_types::least;
 pub use meter::level;
@@ -142,7 +142,7 @@ pub fn decode(format: Format, bytes: &[u8], parts: &mut [f32]) -> usize
 // Writes parts to the start of a buffer, as many as it has room for, and tells how many.
 pub fn encode(parts: &[f32], bytes: &mut [u8]) -> usize
     ensures count { result ≡ min (length parts.now) (length bytes.old / 4) }
-    ensures bytes { bytes.new ≡ partBytes (take result parts.now) ++ drop (4 * result) bytes.old }
+    ensures bytes { bytes.new ≡ part_bytes (take result parts.now) ++ drop (4 * result) bytes.old }
 {
     let count = least(parts.len(), bytes.len() / 4);
     for n in 0..count {

@@ -1,6 +1,6 @@
 // The level of a recording, as a radio's meter shows it.
 ghost use Rattle.std.specs.Prelude.{◌≡◌, ◌<◌, T};
-ghost use Rattle.iq_format.specs.Level.{levelOf, loudness, peakOf, isStep};
+ghost use Rattle.iq_format.specs.Level.{level_of, loudness, peak_of, is_step};
 
 const STEPS: usize = 99;
 
@@ -109,7 +109,7 @@ const STEP_PATTERNS: [u32; 99] = [
 
 fn step(k: usize) -> u32
     requires { k < 99 }
-    ensures { T (isStep k result) }
+    ensures { T (is_step k result) }
 {
     STEP_PATTERNS[k]
 }
@@ -127,7 +127,7 @@ fn loudness(x: f32) -> u32
 
 #[tactic(auto, using(crate::proofs::Steps::peak_none, crate::proofs::Steps::peak_more))]
 fn peak(parts: &[f32]) -> u32
-    ensures { result ≡ peakOf parts.now }
+    ensures { result ≡ peak_of parts.now }
 {
     let mut peak: u32 = 0;
     for n in 0..parts.len() {
@@ -142,7 +142,7 @@ fn peak(parts: &[f32]) -> u32
 // The level of the largest part in dB below full scale, which is 1.0, rounded up: 0 where a part is 1.0 or more, at
 // most 99. NaN counts as 0.
 pub fn level(parts: &[f32]) -> u32
-    ensures { result ≡ levelOf parts.now }
+    ensures { result ≡ level_of parts.now }
 {
     let peak = peak(parts);
     let mut level: u32 = 0;

@@ -2,19 +2,19 @@
 use Rattle.std.specs.Prelude.{◌≡◌, ℕ, ◌*◌, ◌-◌, List, ◌++◌, replicate, Float}
 use Rattle.dsp_types.specs.declared.ComplexSample.{ComplexSample}
 use Rattle.fir.specs.Fir.{line_of}
-use Rattle.history.specs.History.{heldIn, samplesIn}
+use Rattle.history.specs.History.{held_in, samples_in}
 use Rattle.listener.specs.declared.Listener.{Listener}
 use Rattle.listener.specs.declared.window.Reading.{Reading}
-use Rattle.listener.specs.Signal.{Signal, timingOf, bits_of}
+use Rattle.listener.specs.Signal.{Signal, timing_of, bits_of}
 
 -- the lists that rings hold, newest first: any stored index counts modulo 2,048
-unfoldable pub signalFrom : List ComplexSample → List Float → List Float → List Float → ℕ → Signal
-signalFrom inputs re im abs index = record { inputs = inputs; past = samplesIn re im index; magnitudes = heldIn abs index }
+unfoldable pub signal_from : List ComplexSample → List Float → List Float → List Float → ℕ → Signal
+signal_from inputs re im abs index = record { inputs = inputs; past = samples_in re im index; magnitudes = held_in abs index }
 
-unfoldable pub signalOf : Listener → List Float → List Float → List Float → Signal
-signalOf l re im abs = signalFrom (line_of l.matched_filter) re im abs l.past_index
+unfoldable pub signal_of : Listener → List Float → List Float → List Float → Signal
+signal_of l re im abs = signal_from (line_of l.matched_filter) re im abs l.past_index
 
 -- w is the window of n symbols that starts d samples ago: its timing, and its bits with zeros behind them
 pub record Reads (s : Signal) (d n : ℕ) (w : Reading) : Type 0 where
-  pub timing : w.timing ≡ timingOf s d n
+  pub timing : w.timing ≡ timing_of s d n
   pub bits : w.bits ≡ bits_of s d n ++ replicate (510 - 2 * (n - 1)) 0

@@ -1,9 +1,9 @@
 // Samples through the matched filter and into the past.
 ghost use Rattle.std.specs.Prelude.{◌≡◌, take, replicate};
-ghost use Rattle.dsp_types.specs.Samples.{zeroF};
-ghost use Rattle.fir.specs.Fir.{samplesOf};
-ghost use Rattle.listener.specs.Signal.{unheard, hear, hearAll};
-ghost use Rattle.listener.specs.View.{signalOf};
+ghost use Rattle.dsp_types.specs.Samples.{zero_f};
+ghost use Rattle.fir.specs.Fir.{samples_of};
+ghost use Rattle.listener.specs.Signal.{unheard, hear, hear_all};
+ghost use Rattle.listener.specs.View.{signal_of};
 
 use crate::Listener;
 use dsp_types::{ComplexSample, least};
@@ -15,7 +15,7 @@ const PIECE: usize = 512;
 impl Listener {
     // Its past is all zeros.
     pub fn new() -> Listener
-        ensures { signalOf result (replicate 2048 zeroF) (replicate 2048 zeroF) (replicate 2048 zeroF) ≡ unheard }
+        ensures { signal_of result (replicate 2048 zero_f) (replicate 2048 zero_f) (replicate 2048 zero_f) ≡ unheard }
     {
         Listener {
             matched_filter: FirComplexSym::new(),
@@ -31,7 +31,7 @@ impl Listener {
         abs: &mut [f32; 2048],
         input: ComplexSample,
     ) -> Listener
-        ensures { signalOf result re.new im.new abs.new ≡ hear (signalOf self re.old im.old abs.old) input }
+        ensures { signal_of result re.new im.new abs.new ≡ hear (signal_of self re.old im.old abs.old) input }
     {
         let line = self.matched_filter;
         let filtered = line.sample(input);
@@ -59,7 +59,7 @@ impl Listener {
         x: &[f32],
         y: &[f32],
     ) -> Listener
-        ensures { signalOf result re.new im.new abs.new ≡ hearAll (signalOf self re.old im.old abs.old) (take 512 (samplesOf x.now y.now)) }
+        ensures { signal_of result re.new im.new abs.new ≡ hear_all (signal_of self re.old im.old abs.old) (take 512 (samples_of x.now y.now)) }
     {
         let n = least(least(x.len(), y.len()), PIECE);
         let mut out_re = [0.0f32; PIECE];

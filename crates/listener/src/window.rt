@@ -1,7 +1,7 @@
 // Windows of the past: a whole slot's, and those of its two halves.
 ghost use Rattle.std.specs.Prelude.{List, ◌≤◌, ◌<◌};
 ghost use Rattle.dsp_types.specs.declared.ComplexSample.{ComplexSample};
-ghost use Rattle.listener.specs.View.{signalFrom, Reads};
+ghost use Rattle.listener.specs.View.{signal_from, Reads};
 
 // A window's symbol timing, and its bits with zeros behind them.
 #[derive(Clone, Copy)]
@@ -20,7 +20,7 @@ fn read_window<'a>(
     n: usize,
 ) -> Reading
     requires { (d < 2048) × (n ≤ 256) }
-    ensures { (inputs : List ComplexSample) → Reads (signalFrom inputs re.now im.now abs.now index) d n result }
+    ensures { (inputs : List ComplexSample) → Reads (signal_from inputs re.now im.now abs.now index) d n result }
 {
     let t = timing::estimate_timing(abs, index, d, n);
     let first = timing::whole(t);
@@ -38,7 +38,7 @@ pub fn slot_window<'a>(
     abs: &'a [f32; 2048],
     index: usize,
 ) -> Reading
-    ensures { (inputs : List ComplexSample) → Reads (signalFrom inputs re.now im.now abs.now index) 1024 256 result }
+    ensures { (inputs : List ComplexSample) → Reads (signal_from inputs re.now im.now abs.now index) 1024 256 result }
 {
     read_window(re, im, abs, index, 1024, 256)
 }
@@ -50,7 +50,7 @@ pub fn first_half_window<'a>(
     abs: &'a [f32; 2048],
     index: usize,
 ) -> Reading
-    ensures { (inputs : List ComplexSample) → Reads (signalFrom inputs re.now im.now abs.now index) 1024 128 result }
+    ensures { (inputs : List ComplexSample) → Reads (signal_from inputs re.now im.now abs.now index) 1024 128 result }
 {
     read_window(re, im, abs, index, 1024, 128)
 }
@@ -62,7 +62,7 @@ pub fn second_half_window<'a>(
     abs: &'a [f32; 2048],
     index: usize,
 ) -> Reading
-    ensures { (inputs : List ComplexSample) → Reads (signalFrom inputs re.now im.now abs.now index) 514 128 result }
+    ensures { (inputs : List ComplexSample) → Reads (signal_from inputs re.now im.now abs.now index) 514 128 result }
 {
     read_window(re, im, abs, index, 514, 128)
 }

@@ -9,13 +9,13 @@ use lib.Dec.{eqb}
 use lib.ListN.{length, take, drop, get_or, set, length-append, length-drop, drop_of_length-le}
 use lib.Seq.{append_snoc, take-suc-set, set_at, split_at, length-take-le, take_all}
 use borrow.Author.Tests.{ne_eqb}
-use Rattle.dsp_types.specs.Refusals.{wrongLength}
+use Rattle.dsp_types.specs.Refusals.{wrong_length}
 use Rattle.slotter.specs.Bursts.{refusal}
 use Rattle.text.specs.Text.{trimmed}
-use Rattle.text.proofs.Trimming.{trimmed-append, trimmed-length}
-use Rattle.block_text.specs.BlockText.{letterType, wanted, notCharacter, notCharacters, wrongCount, refusalOf, answer_of}
-use Rattle.block_text.proofs.Blocks.{wanted-most}
-use Rattle.lister.specs.Listing.{listedAnswer, listed, listing}
+use Rattle.text.proofs.Trimming.{trimmed_append, trimmed_length}
+use Rattle.block_text.specs.BlockText.{letter_type, wanted, not_character, not_characters, wrong_count, refusal_of, answer_of}
+use Rattle.block_text.proofs.Blocks.{wanted_most}
+use Rattle.lister.specs.Listing.{listed_answer, listed, listing}
 
 -- room for one more
 pub one_more : (B : List ℕ) (n b : ℕ) → n < length B → (t : List ℕ) → listing (take (n + 1) (set B n b) ++ t) ≡ listing (take n B ++ (b ∷ t))
@@ -24,58 +24,58 @@ one_more B n b h t = ap listing (rw (add-one n, take-suc-set B n b h) (append_sn
 -- ---- a letter and more characters than any type has
 
 -- the answer by the letter, and by whether a character is wrong
-long-answer : (k : ℕ) (cs : List ℕ) → 463 ≤ length cs → answer_of k cs ≡ refusal (cond (eqb k 0) (cond (notCharacters cs) 4 5) 3)
-unfolding answer_of refusalOf wrongCount wrongLength
-long-answer k cs h =
-    go (eqb k 0) (notCharacters cs) refl refl (ne_eqb (length cs) (wanted k) (λ (e : length cs ≡ wanted k). omega (arith, e, wanted-most k)))
+long_answer : (k : ℕ) (cs : List ℕ) → 463 ≤ length cs → answer_of k cs ≡ refusal (cond (eqb k 0) (cond (not_characters cs) 4 5) 3)
+unfolding answer_of refusal_of wrong_count wrong_length
+long_answer k cs h =
+    go (eqb k 0) (not_characters cs) refl refl (ne_eqb (length cs) (wanted k) (λ (e : length cs ≡ wanted k). omega (arith, e, wanted_most k)))
   where
-    go : (a b : Bool) → eqb k 0 ≡ a → notCharacters cs ≡ b → eqb (length cs) (wanted k) ≡ false → answer_of k cs ≡ refusal (cond a (cond b 4 5) 3)
+    go : (a b : Bool) → eqb k 0 ≡ a → not_characters cs ≡ b → eqb (length cs) (wanted k) ≡ false → answer_of k cs ≡ refusal (cond a (cond b 4 5) 3)
     go true true e f w = rw (e, f)
     go true false e f w = rw (e, f)
     go false b e f w = rw (w, e)
 
-judged : (l : ℕ) (xs : List ℕ) → 464 ≤ length xs → listing (l ∷ xs) ≡ listedAnswer (letterType l) (refusal (cond (eqb (letterType l) 0) (cond (notCharacters (trimmed 10 xs)) 4 5) 3))
+judged : (l : ℕ) (xs : List ℕ) → 464 ≤ length xs → listing (l ∷ xs) ≡ listed_answer (letter_type l) (refusal (cond (eqb (letter_type l) 0) (cond (not_characters (trimmed 10 xs)) 4 5) 3))
 unfolding listing listed trimmed
 judged l [] h = absurd (omega arith)
-judged l (x ∷ xs) h = ap (listedAnswer (letterType l)) (long-answer (letterType l) (trimmed 10 (x ∷ xs)) (omega (arith, trimmed-length 10 (x ∷ xs))))
+judged l (x ∷ xs) h = ap (listed_answer (letter_type l)) (long_answer (letter_type l) (trimmed 10 (x ∷ xs)) (omega (arith, trimmed_length 10 (x ∷ xs))))
 
-same : (l : ℕ) (xs ys : List ℕ) → 464 ≤ length xs → 464 ≤ length ys → notCharacters (trimmed 10 xs) ≡ notCharacters (trimmed 10 ys) → listing (l ∷ xs) ≡ listing (l ∷ ys)
+same : (l : ℕ) (xs ys : List ℕ) → 464 ≤ length xs → 464 ≤ length ys → not_characters (trimmed 10 xs) ≡ not_characters (trimmed 10 ys) → listing (l ∷ xs) ≡ listing (l ∷ ys)
 same l xs ys h k e = judged l xs h ∙ rw e (sym (judged l ys k))
 
-or-true : (b : Bool) → (b || true) ≡ true
-or-true true = refl
-or-true false = refl
+or_true : (b : Bool) → (b || true) ≡ true
+or_true true = refl
+or_true false = refl
 
-not-append : (xs ys : List ℕ) → notCharacters (xs ++ ys) ≡ (notCharacters xs || notCharacters ys)
-unfolding notCharacters
-not-append [] ys = refl
-not-append (x ∷ xs) ys = ap (λ (b : Bool). notCharacter x || b) (not-append xs ys) ∙ sym (or_assoc (notCharacter x) (notCharacters xs) (notCharacters ys))
+not_append : (xs ys : List ℕ) → not_characters (xs ++ ys) ≡ (not_characters xs || not_characters ys)
+unfolding not_characters
+not_append [] ys = refl
+not_append (x ∷ xs) ys = ap (λ (b : Bool). not_character x || b) (not_append xs ys) ∙ sym (or_assoc (not_character x) (not_characters xs) (not_characters ys))
 
 -- the last character p, and then b: what is kept is b and whether p counts
 module _ (l x p b : ℕ) (ys t : List ℕ) (n : length ys ≡ 462) where
   abbrev T : List ℕ
   T = trimmed 10 (b ∷ t)
 
-  before : notCharacters (trimmed 10 ((x ∷ ys) ++ (p ∷ b ∷ t))) ≡ (notCharacters (x ∷ ys) || (notCharacter p || notCharacters T))
-  unfolding trimmed notCharacters
-  before = ap notCharacters (trimmed-append 10 (x ∷ ys) p (b ∷ t)) ∙ not-append (x ∷ ys) (p ∷ T)
+  before : not_characters (trimmed 10 ((x ∷ ys) ++ (p ∷ b ∷ t))) ≡ (not_characters (x ∷ ys) || (not_character p || not_characters T))
+  unfolding trimmed not_characters
+  before = ap not_characters (trimmed_append 10 (x ∷ ys) p (b ∷ t)) ∙ not_append (x ∷ ys) (p ∷ T)
 
-  after : (c : ℕ) → notCharacters (trimmed 10 ((c ∷ ys) ++ (b ∷ t))) ≡ (notCharacters (c ∷ ys) || notCharacters T)
-  after c = ap notCharacters (trimmed-append 10 (c ∷ ys) b t) ∙ not-append (c ∷ ys) T
+  after : (c : ℕ) → not_characters (trimmed 10 ((c ∷ ys) ++ (b ∷ t))) ≡ (not_characters (c ∷ ys) || not_characters T)
+  after c = ap not_characters (trimmed_append 10 (c ∷ ys) b t) ∙ not_append (c ∷ ys) T
 
-  kept : (c : ℕ) → notCharacters (trimmed 10 ((c ∷ ys) ++ (b ∷ t))) ≡ notCharacters (trimmed 10 ((x ∷ ys) ++ (p ∷ b ∷ t)))
+  kept : (c : ℕ) → not_characters (trimmed 10 ((c ∷ ys) ++ (b ∷ t))) ≡ not_characters (trimmed 10 ((x ∷ ys) ++ (p ∷ b ∷ t)))
       → listing (l ∷ c ∷ (ys ++ (b ∷ [])) ++ t) ≡ listing (l ∷ x ∷ (ys ++ (p ∷ [])) ++ (b ∷ t))
   kept c e =
       ap (λ (r : List ℕ). listing (l ∷ c ∷ r)) (append_snoc ys b t)
       ∙ same l ((c ∷ ys) ++ (b ∷ t)) ((x ∷ ys) ++ (p ∷ b ∷ t)) (omega (arith, length-append ys (b ∷ t))) (omega (arith, length-append ys (p ∷ b ∷ t))) e
       ∙ sym (ap (λ (r : List ℕ). listing (l ∷ x ∷ r)) (append_snoc ys p (b ∷ t)))
 
-  fine : notCharacter p ≡ false → listing (l ∷ x ∷ (ys ++ (b ∷ [])) ++ t) ≡ listing (l ∷ x ∷ (ys ++ (p ∷ [])) ++ (b ∷ t))
+  fine : not_character p ≡ false → listing (l ∷ x ∷ (ys ++ (b ∷ [])) ++ t) ≡ listing (l ∷ x ∷ (ys ++ (p ∷ [])) ++ (b ∷ t))
   fine e = kept x (after x ∙ sym (before ∙ rw e))
 
-  wrong : notCharacter p ≡ true → listing (l ∷ p ∷ (ys ++ (b ∷ [])) ++ t) ≡ listing (l ∷ x ∷ (ys ++ (p ∷ [])) ++ (b ∷ t))
-  unfolding notCharacters
-  wrong e = kept p (after p ∙ rw e (sym (before ∙ rw e (or-true (notCharacters (x ∷ ys))))))
+  wrong : not_character p ≡ true → listing (l ∷ p ∷ (ys ++ (b ∷ [])) ++ t) ≡ listing (l ∷ x ∷ (ys ++ (p ∷ [])) ++ (b ∷ t))
+  unfolding not_characters
+  wrong e = kept p (after p ∙ rw e (sym (before ∙ rw e (or_true (not_characters (x ∷ ys))))))
 
 -- a list of 465 bytes by its ends
 ends : (B : List ℕ) → length B ≡ 465 → B ≡ get_or B 0 0 ∷ get_or B 1 0 ∷ (take 462 (drop 2 B) ++ (get_or B 464 0 ∷ []))
@@ -85,17 +85,17 @@ ends (x ∷ y ∷ zs) n =
     ap (λ (r : List ℕ). x ∷ y ∷ r)
     (split_at zs 462 0 (omega arith) ∙ ap (λ (r : List ℕ). take 462 zs ++ (get_or zs 462 0 ∷ r)) (drop_of_length-le zs {i = 463} (omega arith)))
 
-pub last-fine : (B : List ℕ) (b : ℕ) → length B ≡ 465 → notCharacter (get_or B 464 0) ≡ false → (t : List ℕ)
+pub last_fine : (B : List ℕ) (b : ℕ) → length B ≡ 465 → not_character (get_or B 464 0) ≡ false → (t : List ℕ)
     → listing (set B 464 b ++ t) ≡ listing (B ++ (b ∷ t))
-last-fine B b n e t =
+last_fine B b n e t =
     let ys : List ℕ = take 462 (drop 2 B) in
     let k : length ys ≡ 462 = length-take-le 462 (drop 2 B) (omega (arith, length-drop 2 B)) in
     subst (λ (L : List ℕ). listing (set L 464 b ++ t) ≡ listing (L ++ (b ∷ t))) (sym (ends B n))
     (rw (set_at ys (get_or B 464 0) [] b 462 k) (fine (get_or B 0 0) (get_or B 1 0) (get_or B 464 0) b ys t k e))
 
-pub last-wrong : (B : List ℕ) (b : ℕ) → length B ≡ 465 → notCharacter (get_or B 464 0) ≡ true → (t : List ℕ)
+pub last_wrong : (B : List ℕ) (b : ℕ) → length B ≡ 465 → not_character (get_or B 464 0) ≡ true → (t : List ℕ)
     → listing (set (set B 1 (get_or B 464 0)) 464 b ++ t) ≡ listing (B ++ (b ∷ t))
-last-wrong B b n e t =
+last_wrong B b n e t =
     let ys : List ℕ = take 462 (drop 2 B) in
     let p : ℕ = get_or B 464 0 in
     let k : length ys ≡ 462 = length-take-le 462 (drop 2 B) (omega (arith, length-drop 2 B)) in

@@ -9,45 +9,45 @@ use lib.Seq.{slice, take-add, drop_at, length-take-le}
 use Rattle.io.specs.Counts.{IsPrefixLen}
 use Rattle.slotter.specs.Bursts.{BuilderReply}
 use Rattle.text.specs.declared.Text.{Text}
-use Rattle.text.specs.Text.{text_of, ascii, characterOf, trimmed}
-use Rattle.text.proofs.Decimal.{length-decimal}
-use Rattle.text.proofs.Names.{length-name}
-use Rattle.block_text.specs.BlockText.{letterType, answer_of}
-use Rattle.lister.specs.Listing.{signedDecimal, refusalLine, burstLines, listedAnswer, listed, listing}
+use Rattle.text.specs.Text.{text_of, ascii, character_of, trimmed}
+use Rattle.text.proofs.Decimal.{length_decimal}
+use Rattle.text.proofs.Names.{length_name}
+use Rattle.block_text.specs.BlockText.{letter_type, answer_of}
+use Rattle.lister.specs.Listing.{signed_decimal, refusal_line, burst_lines, listed_answer, listed, listing}
 
-length-signed : (z : ℤ) → length (signedDecimal z) ≤ 21
-unfolding signedDecimal ascii
-length-signed (pos n) = omega (arith, length-decimal 20 n)
-length-signed (negsuc n) = omega (arith, length-decimal 20 (suc n))
+length_signed : (z : ℤ) → length (signed_decimal z) ≤ 21
+unfolding signed_decimal ascii
+length_signed (pos n) = omega (arith, length_decimal 20 n)
+length_signed (negsuc n) = omega (arith, length_decimal 20 (suc n))
 
-length_two : (f : ℕ) (bits : List ℕ) → length (map characterOf (slice f (f + 2) bits)) ≤ 2
+length_two : (f : ℕ) (bits : List ℕ) → length (map character_of (slice f (f + 2) bits)) ≤ 2
 length_two f bits = simp (length-map, length-drop, length-take) (omega arith)
 
-length-refusal : (n : ℕ) → length (refusalLine n) ≤ 2048
-unfolding refusalLine ascii
-length-refusal n = simp length-append (omega (arith, length-decimal 20 n))
+length_refusal : (n : ℕ) → length (refusal_line n) ≤ 2048
+unfolding refusal_line ascii
+length_refusal n = simp length-append (omega (arith, length_decimal 20 n))
 
-length-burst : (type : ℕ) (first last : ℤ) (bits : List ℕ) → length (burstLines type first last bits) ≤ 2048
-unfolding burstLines ascii
-length-burst type first last bits =
+length_burst : (type : ℕ) (first last : ℤ) (bits : List ℕ) → length (burst_lines type first last bits) ≤ 2048
+unfolding burst_lines ascii
+length_burst type first last bits =
     simp length-append
-    (omega (arith, length-name type, length-signed first, length_two 12 bits, length-signed last, length_two 498 bits))
+    (omega (arith, length_name type, length_signed first, length_two 12 bits, length_signed last, length_two 498 bits))
 
-length-answer : (type : ℕ) (told : BuilderReply) → length (listedAnswer type told) ≤ 2048
-unfolding listedAnswer
-length-answer type told = go told.number told.sums told.bits
+length_answer : (type : ℕ) (told : BuilderReply) → length (listed_answer type told) ≤ 2048
+unfolding listed_answer
+length_answer type told = go told.number told.sums told.bits
   where
-    go : (n : ℕ) (sums : List ℤ) (bits : List ℕ) → length (listedAnswer type (record { number = n; sums = sums; bits = bits })) ≤ 2048
-    go n [] bits = length-refusal n
-    go n (first ∷ rest) bits = length-burst type first (get_or rest 0 (pos 0)) bits
+    go : (n : ℕ) (sums : List ℤ) (bits : List ℕ) → length (listed_answer type (record { number = n; sums = sums; bits = bits })) ≤ 2048
+    go n [] bits = length_refusal n
+    go n (first ∷ rest) bits = length_burst type first (get_or rest 0 (pos 0)) bits
 
-pub length-listing : (input : List ℕ) → length (listing input) ≤ 2048
+pub length_listing : (input : List ℕ) → length (listing input) ≤ 2048
 unfolding listing listed
-length-listing input = go (trimmed 10 input)
+length_listing input = go (trimmed 10 input)
   where
     go : (l : List ℕ) → length (listed l) ≤ 2048
-    go [] = length-refusal 3
-    go (letter ∷ characters) = length-answer (letterType letter) (answer_of (letterType letter) characters)
+    go [] = length_refusal 3
+    go (letter ∷ characters) = length_answer (letter_type letter) (answer_of (letter_type letter) characters)
 
 -- what `Text::append` says of its length, as a count
 pub counts : (t : Text) → t.len ≡ length (text_of t) → IsPrefixLen t.len t.bytes

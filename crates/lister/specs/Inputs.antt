@@ -3,5 +3,5 @@ use Rattle.std.specs.Prelude.{ℕ, List, take}
 use Rattle.lister.specs.declared.Input.{Input}
 
 -- its bytes
-unfoldable pub inputBytes : Input → List ℕ
-inputBytes i = take i.len i.bytes
+unfoldable pub input_bytes : Input → List ℕ
+input_bytes i = take i.len i.bytes

@@ -4,9 +4,9 @@
 ghost use Rattle.std.specs.Prelude.{◌≡◌, ℕ, List, [], ◌∷◌, ◌++◌};
 ghost use Rattle.io.specs.Counts.{IsPrefixLen};
 ghost use Rattle.text.specs.Text.{text_of, cut};
-ghost use Rattle.slotter.specs.Bursts.{builderReply};
-ghost use Rattle.lister.specs.Listing.{signedDecimal, refusalLine, burstLines, listedAnswer, listing};
-ghost use Rattle.lister.specs.Inputs.{inputBytes};
+ghost use Rattle.slotter.specs.Bursts.{builder_reply};
+ghost use Rattle.lister.specs.Listing.{signed_decimal, refusal_line, burst_lines, listed_answer, listing};
+ghost use Rattle.lister.specs.Inputs.{input_bytes};
 
 use block_text::{answer, not_character, type_of};
 use dsp_types::BAD_LENGTH;
@@ -15,7 +15,7 @@ use text::Text;
 
 // The text with a whole number in decimal behind it.
 fn with_signed(text: Text, n: i32) -> Text
-    ensures { text_of result ≡ cut (text_of text ++ signedDecimal n) }
+    ensures { text_of result ≡ cut (text_of text ++ signed_decimal n) }
 {
     if n < 0 {
         text.append(b"-").decimal((-1 - n) as u64 + 1)
@@ -26,7 +26,7 @@ fn with_signed(text: Text, n: i32) -> Text
 
 // What is printed of a refusal.
 fn refused(number: u32) -> Text
-    ensures { IsPrefixLen result.len result.bytes × (text_of result ≡ cut (refusalLine number)) }
+    ensures { IsPrefixLen result.len result.bytes × (text_of result ≡ cut (refusal_line number)) }
 {
     Text::new()
         .append(b"refused=")
@@ -36,7 +36,7 @@ fn refused(number: u32) -> Text
 
 // What is printed of a burst.
 fn built(burst_type: u32, first: i32, last: i32, burst: [u8; 510]) -> Text
-    ensures { IsPrefixLen result.len result.bytes × (text_of result ≡ cut (burstLines burst_type first last burst)) }
+    ensures { IsPrefixLen result.len result.bytes × (text_of result ≡ cut (burst_lines burst_type first last burst)) }
 {
     let bits: &[u8] = &burst;
     let adj_first = &bits[12..14];
@@ -53,7 +53,7 @@ fn built(burst_type: u32, first: i32, last: i32, burst: [u8; 510]) -> Text
 
 // What is printed of an answer to a letter of that type.
 fn print(burst_type: u32, burst: Burst) -> Text
-    ensures { IsPrefixLen result.len result.bytes × (text_of result ≡ cut (listedAnswer burst_type (builderReply burst))) }
+    ensures { IsPrefixLen result.len result.bytes × (text_of result ≡ cut (listed_answer burst_type (builder_reply burst))) }
 {
     let answer = burst.answer;
     let bits = burst.bits;
@@ -84,7 +84,7 @@ pub struct Input {
 
 impl Input {
     pub fn new() -> Input
-        ensures { inputBytes result ≡ [] }
+        ensures { input_bytes result ≡ [] }
     {
         Input {
             bytes: [0; 465],
@@ -95,7 +95,7 @@ impl Input {
     // One byte more. 465 bytes are too many for each of the three letters. Behind another letter what counts is the
     // last byte and whether one before it was other than 0 and 1.
     fn push(self, b: u8) -> Input
-        ensures { (t : List ℕ) → listing (inputBytes result ++ t) ≡ listing (inputBytes self ++ (b ∷ t)) }
+        ensures { (t : List ℕ) → listing (input_bytes result ++ t) ≡ listing (input_bytes self ++ (b ∷ t)) }
     {
         let mut bytes = self.bytes;
         let len = self.len;
@@ -116,7 +116,7 @@ impl Input {
 
     // A piece more.
     pub fn feed(self, piece: &[u8]) -> Input
-        ensures { (t : List ℕ) → listing (inputBytes result ++ t) ≡ listing (inputBytes self ++ (piece.now ++ t)) }
+        ensures { (t : List ℕ) → listing (input_bytes result ++ t) ≡ listing (input_bytes self ++ (piece.now ++ t)) }
     {
         let mut input = self;
         for i in 0..piece.len() {
@@ -127,7 +127,7 @@ impl Input {
 
     // The listing of all the pieces.
     pub fn listed(self) -> Text
-        ensures { IsPrefixLen result.len result.bytes × (text_of result ≡ listing (inputBytes self)) }
+        ensures { IsPrefixLen result.len result.bytes × (text_of result ≡ listing (input_bytes self)) }
     {
         let bytes = self.bytes;
         listing(text::front(&bytes, self.len))

@@ -9,7 +9,12 @@ fn list<H: Host>(rt: &H, input: Input) {
     let text = input.listed();
     let bytes = text.bytes;
     let len = text.len;
-    streams::print_or_tell(rt, &bytes[..len], b"listing: the listing cannot be written");
+    streams::write_or_tell(
+        rt,
+        &mut rt.output(),
+        &bytes[..len],
+        b"listing: the listing cannot be written",
+    );
 }
 
 // A proved loop has to end, and nothing says that an input does: it counts to a number that no run reaches.

@@ -2,14 +2,14 @@
 #![tactic(auto)]
 
 ghost use Rattle.std.specs.Prelude.{◌≡◌, ◌<◌, length};
-ghost use Rattle.logger.specs.Judge.{slotTypeOf, wrongWindow, judgeRefusal, findingBytes, judgeAnswer};
+ghost use Rattle.logger.specs.Judge.{slot_type_of, wrong_window, judge_refusal, finding_bytes, judge_answer};
 
 use burst_finder::{Finding, SlotType};
 use dsp_types::{ACCEPTED, BAD_BIT, BAD_KIND, BAD_LENGTH};
 
 // The slot kind of a number that is not refused.
 fn slot_type(kind: u32) -> SlotType
-    ensures { result ≡ slotTypeOf kind }
+    ensures { result ≡ slot_type_of kind }
 {
     match kind {
         0 => SlotType::Dl,
@@ -20,7 +20,7 @@ fn slot_type(kind: u32) -> SlotType
 
 // Whether the bits have another length than windows of the kind.
 fn wrong_window(kind: u32, bits: &[u8]) -> bool
-    ensures { result ≡ wrongWindow kind bits.now }
+    ensures { result ≡ wrong_window kind bits.now }
 {
     if 2 < kind {
         return false;
@@ -34,7 +34,7 @@ fn wrong_window(kind: u32, bits: &[u8]) -> bool
 
 // The refusal of a call, or 0.
 fn refusal(kind: u32, bits: &[u8], answer: &[u8]) -> u32
-    ensures { result ≡ judgeRefusal kind bits.now answer.now }
+    ensures { result ≡ judge_refusal kind bits.now answer.now }
 {
     if answer.len() != 6 {
         return BAD_LENGTH;
@@ -51,7 +51,7 @@ fn refusal(kind: u32, bits: &[u8], answer: &[u8]) -> u32
 // The six answer bytes of a finding.
 fn write_answer(f: Finding, answer: &mut [u8])
     requires { (f.train_errs < 256) × (f.burst_pos < 65536) × (f.burst_len < 65536) × (length answer.old ≡ 6) }
-    ensures { answer.new ≡ findingBytes f }
+    ensures { answer.new ≡ finding_bytes f }
 {
     let train_type = f.train_type;
     answer[0] = train_type.number();
@@ -64,7 +64,7 @@ fn write_answer(f: Finding, answer: &mut [u8])
 
 // Judges kept window bits again: fills the six answer bytes and returns 0, or returns the refusal's number and leaves them alone.
 pub fn judge(kind: u32, bits: &[u8], answer: &mut [u8]) -> u32
-    ensures { (result ≡ judgeRefusal kind bits.now answer.old) × (answer.new ≡ judgeAnswer kind bits.now answer.old) }
+    ensures { (result ≡ judge_refusal kind bits.now answer.old) × (answer.new ≡ judge_answer kind bits.now answer.old) }
 {
     let refused = refusal(kind, bits, &*answer);
     if refused == ACCEPTED {

@@ -6,10 +6,10 @@ use native.Mathlib.Nat.{le_trans, le_of_eq, le-add_right, lt_of_lt_of_le, lt_of_
 use native.Mathlib.Omega.{arith}
 use lib.Pow.{pow-add, pow_pos}
 use Rattle.magnitude.specs.Magnitude.{square, largest}
-use Rattle.magnitude.specs.Pattern.{exponentOf, significandOf, patternUnits, packedOf}
-use Rattle.magnitude.proofs.Numbers.{product_lt, root-lt, sum-lt-49}
+use Rattle.magnitude.specs.Pattern.{exponent_of, significand_of, pattern_units, packed_of}
+use Rattle.magnitude.proofs.Numbers.{product_lt, root_lt, sum_lt_49}
 use Rattle.magnitude.proofs.Values.{Normal}
-use Rattle.magnitude.proofs.Largest.{largest-is, packed-top}
+use Rattle.magnitude.proofs.Largest.{largest_is, packed_top}
 
 -- ---- a · K · Q + x · Q, with x cut to a multiple of K
 cut_low : (a x K Q h : ℕ) → h ≤ a + x / K → h * (K * Q) ≤ a * (K * Q) + x * Q
@@ -57,41 +57,41 @@ module _ (e f : ℕ) (F : f ≤ e) where
   high m n g h = rw (scaled g, squares m n) (cut_high (m * m) (n * n) (gap e f) (unit f) (g * g) (pow_pos (2 * (e - f))) (mul-pos (pow_pos f) (pow_pos f)) h)
 
 -- ---- the parts' patterns a and b
-significand-lt : (p : ℕ) → significandOf p < 2 ^ 24
-significand-lt p = omega arith
+significand_lt : (p : ℕ) → significand_of p < 2 ^ 24
+significand_lt p = omega arith
 
 -- the smaller part's square has 48 digits at most, and the root 25
-pub small-square-lt : (b k : ℕ) → square (significandOf b) / k < 2 ^ 48
-small-square-lt b k = lt_of_le_of_lt (div-le_self (square (significandOf b)) k) (product_lt 24 (significand-lt b) (significand-lt b))
+pub small_square_lt : (b k : ℕ) → square (significand_of b) / k < 2 ^ 48
+small_square_lt b k = lt_of_le_of_lt (div-le_self (square (significand_of b)) k) (product_lt 24 (significand_lt b) (significand_lt b))
 
-pub root-lt-25 : (s g : ℕ) → s < 2 ^ 49 → square g ≤ s → g < 2 ^ 25
-root-lt-25 s g h l = root-lt g (2 ^ 25) (omega arith)
+pub root_lt_25 : (s g : ℕ) → s < 2 ^ 49 → square g ≤ s → g < 2 ^ 25
+root_lt_25 s g h l = root_lt g (2 ^ 25) (omega arith)
 
 -- the root is no smaller than the larger part
-normal : (a s g : ℕ) → square (significandOf a) ≤ s → s < square (g + 1) → Normal (exponentOf a) g
+normal : (a s g : ℕ) → square (significand_of a) ≤ s → s < square (g + 1) → Normal (exponent_of a) g
 normal a s g lo hi =
-    let l : significandOf a < g + 1 = root-lt (significandOf a) (g + 1) (lt_of_le_of_lt lo hi) in
-    elim (eq-zero-or-pos (exponentOf a)) [ inl z ↦ inr z | inr p ↦ inl (omega arith) ]
+    let l : significand_of a < g + 1 = root_lt (significand_of a) (g + 1) (lt_of_le_of_lt lo hi) in
+    elim (eq-zero-or-pos (exponent_of a)) [ inl z ↦ inr z | inr p ↦ inl (omega arith) ]
 
-aligned : (a b g : ℕ) → b ≤ a → a < 0x7f80_0000 → (let s = square (significandOf a) + square (significandOf b) / gap (exponentOf a) (exponentOf b) in (square g ≤ s) × (s < square (g + 1)))
-    → packedOf (exponentOf a) g ≡ largest (square (patternUnits a) + square (patternUnits b))
+aligned : (a b g : ℕ) → b ≤ a → a < 0x7f80_0000 → (let s = square (significand_of a) + square (significand_of b) / gap (exponent_of a) (exponent_of b) in (square g ≤ s) × (s < square (g + 1)))
+    → packed_of (exponent_of a) g ≡ largest (square (pattern_units a) + square (pattern_units b))
 aligned a b g h l r =
-    let e = exponentOf a in
-    let f = exponentOf b in
-    let m = significandOf a in
-    let n = significandOf b in
+    let e = exponent_of a in
+    let f = exponent_of b in
+    let m = significand_of a in
+    let n = significand_of b in
     let z = square n / gap e f in
     let F : f ≤ e = omega arith in
-    sym (largest-is (square (patternUnits a) + square (patternUnits b)) (packedOf e g)
-    (packed-top (square (patternUnits a) + square (patternUnits b)) e g (omega arith)
-    (root-lt-25 (square m + z) g (sum-lt-49 m z (significand-lt a) (small-square-lt b (gap e f))) r.0)
+    sym (largest_is (square (pattern_units a) + square (pattern_units b)) (packed_of e g)
+    (packed_top (square (pattern_units a) + square (pattern_units b)) e g (omega arith)
+    (root_lt_25 (square m + z) g (sum_lt_49 m z (significand_lt a) (small_square_lt b (gap e f))) r.0)
     (normal a (square m + z) g (le-add_right (square m) z) r.1)
     (low e f F m n g r.0)
     (high e f F m n (g + 1) r.1)))
 
 -- the same, by what the calls on the way give
-pub aligned_at : (a b e m n f z g : ℕ) → b ≤ a → a < 0x7f80_0000 → e ≡ exponentOf a → m ≡ significandOf a → n ≡ significandOf b → f ≡ exponentOf b → z ≡ square n / gap e f
-    → (square g ≤ square m + z) × (square m + z < square (g + 1)) → packedOf e g ≡ largest (square (patternUnits a) + square (patternUnits b))
+pub aligned_at : (a b e m n f z g : ℕ) → b ≤ a → a < 0x7f80_0000 → e ≡ exponent_of a → m ≡ significand_of a → n ≡ significand_of b → f ≡ exponent_of b → z ≡ square n / gap e f
+    → (square g ≤ square m + z) × (square m + z < square (g + 1)) → packed_of e g ≡ largest (square (pattern_units a) + square (pattern_units b))
 aligned_at a b e m n f z g h l E M N F Z r =
-    let q : square m + z ≡ square (significandOf a) + square (significandOf b) / gap (exponentOf a) (exponentOf b) = cc in
+    let q : square m + z ≡ square (significand_of a) + square (significand_of b) / gap (exponent_of a) (exponent_of b) = cc in
     rw E (aligned a b g h l (rw q at r))

@@ -12,15 +12,15 @@ pub square_le : {a b : ℕ} → a ≤ b → a * a ≤ b * b
 square_le h = mul-le-mul h h
 
 -- the order of the squares is that of the roots
-pub root-lt : (a b : ℕ) → a * a < b * b → a < b
-root-lt a b h = lt_of_not-le (λ g. not-le_of_lt h (square_le g))
+pub root_lt : (a b : ℕ) → a * a < b * b → a < b
+root_lt a b h = lt_of_not-le (λ g. not-le_of_lt h (square_le g))
 
-pub small-square : (a : ℕ) → a < 2 ^ 25 → a * a < 2 ^ 64
-small-square a h = lt_of_lt_of_le (product_lt 25 h h) (lit≤ tt)
+pub small_square : (a : ℕ) → a < 2 ^ 25 → a * a < 2 ^ 64
+small_square a h = lt_of_lt_of_le (product_lt 25 h h) (lit≤ tt)
 
-pub sum-lt-49 : (m z : ℕ) → m < 2 ^ 24 → z < 2 ^ 48 → m * m + z < 2 ^ 49
-sum-lt-49 m z h k = let l : m * m < 2 ^ 48 = product_lt 24 h h in omega arith
+pub sum_lt_49 : (m z : ℕ) → m < 2 ^ 24 → z < 2 ^ 48 → m * m + z < 2 ^ 49
+sum_lt_49 m z h k = let l : m * m < 2 ^ 48 = product_lt 24 h h in omega arith
 
 -- a number whose square is above s
-pub root-pos : (s g : ℕ) → s < g * g → 0 < g
-root-pos s g h = root-lt 0 g (lt_of_le_of_lt zero-le h)
+pub root_pos : (s g : ℕ) → s < g * g → 0 < g
+root_pos s g h = root_lt 0 g (lt_of_le_of_lt zero-le h)

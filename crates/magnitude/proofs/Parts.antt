@@ -11,24 +11,24 @@ use lib.Ieee.{Float, nan, inf, fin, binary32, binary64, lt, ne, is_nan, nan_bits
 use lib.Ieee.Bits.{of_bits-to_bits, nan_bits_above, is_false}
 use lib.Ieee.Compare.{differs_from_itself}
 use lib.Ieee.Scale.{finite}
-use Rattle.dsp_types.specs.Samples.{zeroF}
-use Rattle.magnitude.specs.Magnitude.{units, square, largest, magnitudeOf}
-use Rattle.magnitude.specs.Pattern.{size_of, patternUnits}
-use Rattle.magnitude.proofs.Largest.{largest-lt}
-use Rattle.magnitude.proofs.Values.{Sized, sized-finite, sized-units, number_at, no-number-at}
+use Rattle.dsp_types.specs.Samples.{zero_f}
+use Rattle.magnitude.specs.Magnitude.{units, square, largest, magnitude_of}
+use Rattle.magnitude.specs.Pattern.{size_of, pattern_units}
+use Rattle.magnitude.proofs.Largest.{largest_lt}
+use Rattle.magnitude.proofs.Values.{Sized, sized_finite, sized_units, number_at, no_number_at}
 
 -- ---- NaN is what differs from itself
-pub nan-no-number : (x : Float) → ne x x ≡ true → finite x ≡ false
-nan-no-number x e = rw (differs_from_itself x (subst T (sym e) tt))
+pub nan_no_number : (x : Float) → ne x x ≡ true → finite x ≡ false
+nan_no_number x e = rw (differs_from_itself x (subst T (sym e) tt))
 
-pub below-not-nan : (x y : Float) → lt x y ≡ true → T (not (is_nan x))
+pub below_not_nan : (x y : Float) → lt x y ≡ true → T (not (is_nan x))
 unfolding lt is_nan
-below-not-nan nan y e = absurd (true≢false (sym e))
-below-not-nan (inf s) y e = tt
-below-not-nan (fin s m k) y e = tt
+below_not_nan nan y e = absurd (true≢false (sym e))
+below_not_nan (inf s) y e = tt
+below_not_nan (fin s m k) y e = tt
 
-pub not-nan-pattern : (p : ℕ) → p < 0x7ff0_0000_0000_0000 → T (not (nan_bits binary64 p))
-not-nan-pattern p h =
+pub not_nan_pattern : (p : ℕ) → p < 0x7ff0_0000_0000_0000 → T (not (nan_bits binary64 p))
+not_nan_pattern p h =
     let m : p % 0x8000_0000_0000_0000 ≡ p = omega arith in
     rw (nan_bits_above, m, le-ltb 0x7ff0_0000_0000_0000 p (omega arith)) tt
 
@@ -43,60 +43,60 @@ no_number nan f h = refl
 no_number (inf s) f h = refl
 no_number (fin s m e) f h =
     let x = fin s m e in
-    ap finite (sym (of_bits-to_bits binary32 x f)) ∙ no-number-at (to_bits binary32 x) h
+    ap finite (sym (of_bits-to_bits binary32 x f)) ∙ no_number_at (to_bits binary32 x) h
 
-pub number : (x : Float) → T (fits binary32 x) → size_of x < 0x7f80_0000 → Sized x (leb 0x8000_0000 (to_bits binary32 x)) (patternUnits (size_of x))
+pub number : (x : Float) → T (fits binary32 x) → size_of x < 0x7f80_0000 → Sized x (leb 0x8000_0000 (to_bits binary32 x)) (pattern_units (size_of x))
 unfolding size_of
 number nan f h = absurd (lt_irrefl 0x7f80_0000 h)
 number (inf s) f h = rw of_bits-to_bits at (number_at (to_bits binary32 (inf s)) h)
 number (fin s m e) f h = rw of_bits-to_bits at (number_at (to_bits binary32 (fin s m e)) h)
 
-pub units-size : (x : Float) → T (fits binary32 x) → size_of x < 0x7f80_0000 → units x ≡ patternUnits (size_of x)
-units-size x f h = sized-units x (leb 0x8000_0000 (to_bits binary32 x)) (patternUnits (size_of x)) (number x f h)
+pub units_size : (x : Float) → T (fits binary32 x) → size_of x < 0x7f80_0000 → units x ≡ pattern_units (size_of x)
+units_size x f h = sized_units x (leb 0x8000_0000 (to_bits binary32 x)) (pattern_units (size_of x)) (number x f h)
 
-pub size-lt : (x : Float) → T (fits binary32 x) → finite x ≡ true → size_of x < 0x7f80_0000
-size-lt x f h = lt_of_not-le (λ g. absurd (true≢false (sym h ∙ no_number x f g)))
+pub size_lt : (x : Float) → T (fits binary32 x) → finite x ≡ true → size_of x < 0x7f80_0000
+size_lt x f h = lt_of_not-le (λ g. absurd (true≢false (sym h ∙ no_number x f g)))
 
 -- ---- the result
-pub zero-first : (re im : Float) → finite re ≡ false → magnitudeOf re im ≡ zeroF
-unfolding magnitudeOf
-zero-first re im e = simp e
+pub zero_first : (re im : Float) → finite re ≡ false → magnitude_of re im ≡ zero_f
+unfolding magnitude_of
+zero_first re im e = simp e
 
-pub zero-second : (re im : Float) → finite im ≡ false → magnitudeOf re im ≡ zeroF
-unfolding magnitudeOf
-zero-second re im e = go (finite re)
+pub zero_second : (re im : Float) → finite im ≡ false → magnitude_of re im ≡ zero_f
+unfolding magnitude_of
+zero_second re im e = go (finite re)
   where
-    go : (b : Bool) → cond (b && finite im) (of_bits binary32 (largest (square (units re) + square (units im)))) zeroF ≡ zeroF
+    go : (b : Bool) → cond (b && finite im) (of_bits binary32 (largest (square (units re) + square (units im)))) zero_f ≡ zero_f
     go true = simp e
     go false = refl
 
-pub two-numbers : (re im : Float) → finite re ≡ true → finite im ≡ true → magnitudeOf re im ≡ of_bits binary32 (largest (square (units re) + square (units im)))
-unfolding magnitudeOf
-two-numbers re im a b = simp (a, b)
+pub two_numbers : (re im : Float) → finite re ≡ true → finite im ≡ true → magnitude_of re im ≡ of_bits binary32 (largest (square (units re) + square (units im)))
+unfolding magnitude_of
+two_numbers re im a b = simp (a, b)
 
-pub not-nan-bits : (p : ℕ) → p < 0x7f80_0000 → T (not (nan_bits binary32 p))
-not-nan-bits p h =
+pub not_nan_bits : (p : ℕ) → p < 0x7f80_0000 → T (not (nan_bits binary32 p))
+not_nan_bits p h =
     let m : p % 0x8000_0000 ≡ p = omega arith in
     rw (nan_bits_above, m, le-ltb 0x7f80_0000 p (omega arith)) tt
 
-pub two-sizes : (re im : Float) (p : ℕ) → T (fits binary32 re) → T (fits binary32 im)
-    → (let n = max (size_of re) (size_of im) in (n < 0x7f80_0000 → p ≡ largest (square (patternUnits (size_of re)) + square (patternUnits (size_of im)))) × (0x7f80_0000 ≤ n → p ≡ 0))
-    → T (not (nan_bits binary32 p)) × (of_bits binary32 p ≡ magnitudeOf re im)
-two-sizes re im p f g r = elim (eq-zero-or-pos (0x7f80_0000 - max (size_of re) (size_of im))) [
+pub two_sizes : (re im : Float) (p : ℕ) → T (fits binary32 re) → T (fits binary32 im)
+    → (let n = max (size_of re) (size_of im) in (n < 0x7f80_0000 → p ≡ largest (square (pattern_units (size_of re)) + square (pattern_units (size_of im)))) × (0x7f80_0000 ≤ n → p ≡ 0))
+    → T (not (nan_bits binary32 p)) × (of_bits binary32 p ≡ magnitude_of re im)
+two_sizes re im p f g r = elim (eq-zero-or-pos (0x7f80_0000 - max (size_of re) (size_of im))) [
   | inl z ↦
       let zero : p ≡ 0 = r.1 (omega arith) in
-      (not-nan-bits p (omega arith), rw zero (sym (infinite z)))
+      (not_nan_bits p (omega arith), rw zero (sym (infinite z)))
   | inr z ↦
       let x : size_of re < 0x7f80_0000 = omega arith in
       let y : size_of im < 0x7f80_0000 = omega arith in
       let e = r.0 (omega arith) in (
-        not-nan-bits p (rw e (largest-lt (square (patternUnits (size_of re)) + square (patternUnits (size_of im))))),
-        rw (two-numbers re im (sized-finite re _ _ (number re f x)) (sized-finite im _ _ (number im g y)), units-size re f x, units-size im g y, e),
+        not_nan_bits p (rw e (largest_lt (square (pattern_units (size_of re)) + square (pattern_units (size_of im))))),
+        rw (two_numbers re im (sized_finite re _ _ (number re f x)) (sized_finite im _ _ (number im g y)), units_size re f x, units_size im g y, e),
       )
 ]
   where
-    infinite : 0x7f80_0000 - max (size_of re) (size_of im) ≡ 0 → magnitudeOf re im ≡ zeroF
+    infinite : 0x7f80_0000 - max (size_of re) (size_of im) ≡ 0 → magnitude_of re im ≡ zero_f
     infinite z = elim (eq-zero-or-pos (0x7f80_0000 - size_of re)) [
-      | inl h ↦ zero-first re im (no_number re f (omega arith))
-      | inr h ↦ zero-second re im (no_number im g (omega arith))
+      | inl h ↦ zero_first re im (no_number re f (omega arith))
+      | inr h ↦ zero_second re im (no_number im g (omega arith))
     ]

@@ -13,14 +13,14 @@ use lib.Ieee.Fits.{and_i, fits_widens}
 use lib.Ieee.Exact.{HasValue}
 use lib.Ieee.Scale.{finite}
 use Rattle.dsp_types.proofs.Laws.{both_true}
-use Rattle.dsp_types.specs.Samples.{zeroF}
-use Rattle.magnitude.specs.Magnitude.{square, largest, magnitudeOf, units}
-use Rattle.magnitude.specs.Pattern.{size_of, exponentOf, significandOf, patternUnits}
-use Rattle.magnitude.proofs.Numbers.{square_le, root-lt}
-use Rattle.magnitude.proofs.Values.{sized-units, unsigned-at, pattern-mono}
-use Rattle.magnitude.proofs.Largest.{largest-is, under-intro, under-elim}
-use Rattle.magnitude.proofs.Parts.{number, size-lt, units-size, two-numbers, not-nan-bits}
-use Rattle.magnitude.proofs.Rounded.{rounded-lt, square-at, sum-at, square-exact, finite-parts}
+use Rattle.dsp_types.specs.Samples.{zero_f}
+use Rattle.magnitude.specs.Magnitude.{square, largest, magnitude_of, units}
+use Rattle.magnitude.specs.Pattern.{size_of, exponent_of, significand_of, pattern_units}
+use Rattle.magnitude.proofs.Numbers.{square_le, root_lt}
+use Rattle.magnitude.proofs.Values.{sized_units, unsigned_at, pattern_mono}
+use Rattle.magnitude.proofs.Largest.{largest_is, under_intro, under_elim}
+use Rattle.magnitude.proofs.Parts.{number, size_lt, units_size, two_numbers, not_nan_bits}
+use Rattle.magnitude.proofs.Rounded.{rounded_lt, square_at, sum_at, square_exact, finite_parts}
 
 -- as `quick` computes them
 abbrev squared : Float → Float
@@ -33,23 +33,23 @@ sum_of x y = add binary64 (squared x) (squared y)
 abbrev unit : ℕ
 unit = 2 ^ 149 * 2 ^ 149
 
-unit-pos : 0 < unit
-unit-pos = mul-pos (pow_pos 149) (pow_pos 149)
+unit_pos : 0 < unit
+unit_pos = mul-pos (pow_pos 149) (pow_pos 149)
 
 -- where n lies from p's square to below the next
-between : (n p : ℕ) → p < 0x7f80_0000 → square (patternUnits p) ≤ n → n < square (patternUnits (p + 1)) → largest n ≡ p
-between n p h lo hi = largest-is n p (under-intro n p h lo, λ q l t. not-le_of_lt hi (le_trans (square_le (pattern-mono (p + 1) q (omega arith))) (under-elim n q t).1))
+between : (n p : ℕ) → p < 0x7f80_0000 → square (pattern_units p) ≤ n → n < square (pattern_units (p + 1)) → largest n ≡ p
+between n p h lo hi = largest_is n p (under_intro n p h lo, λ q l t. not-le_of_lt hi (le_trans (square_le (pattern_mono (p + 1) q (omega arith))) (under_elim n q t).1))
 
 -- a part's square, with no rounding
 part : (x : Float) → T (fits binary32 x) → finite x ≡ true → HasValue (squared x) false (square (units x)) unit
 part x f h =
-    let l = size-lt x f h in
-    rw (units-size x f l, square-at binary64 x (leb 0x8000_0000 (to_bits binary32 x)) (patternUnits (size_of x)) (2 ^ 149) (pow_pos 149) (number x f l))
-    (square-exact (significandOf (size_of x)) (exponentOf (size_of x)) (omega arith) (omega arith))
+    let l = size_lt x f h in
+    rw (units_size x f l, square_at binary64 x (leb 0x8000_0000 (to_bits binary32 x)) (pattern_units (size_of x)) (2 ^ 149) (pow_pos 149) (number x f l))
+    (square_exact (significand_of (size_of x)) (exponent_of (size_of x)) (omega arith) (omega arith))
 
 -- a pattern's square, rounded
-pattern-square : (p : ℕ) → p < 0x7f80_0000 → squared (of_bits binary32 p) ≡ round binary64 false (square (patternUnits p)) unit
-pattern-square p h = square-at binary64 (of_bits binary32 p) false (patternUnits p) (2 ^ 149) (pow_pos 149) (unsigned-at p h)
+pattern_square : (p : ℕ) → p < 0x7f80_0000 → squared (of_bits binary32 p) ≡ round binary64 false (square (pattern_units p)) unit
+pattern_square p h = square_at binary64 (of_bits binary32 p) false (pattern_units p) (2 ^ 149) (pow_pos 149) (unsigned_at p h)
 
 -- ---- the test, on the parts x and y as `capped` gives them for re and im
 abbrev large : Float
@@ -60,30 +60,30 @@ held x z (inl e) f = rw e f
 held x z (inr e) f = rw e (of_bits-fits binary32 0x7f00_0000)
 
 -- a part whose square is below that of 2 ^ 127 is the sample's own
-own : (x z : Float) → (x ≡ z) ⊎ (x ≡ large) → units x < patternUnits 0x7f00_0000 → x ≡ z
+own : (x z : Float) → (x ≡ z) ⊎ (x ≡ large) → units x < pattern_units 0x7f00_0000 → x ≡ z
 own x z (inl e) h = e
-own x z (inr e) h = absurd (lt_irrefl (patternUnits 0x7f00_0000) (rw (e, sized-units large false (patternUnits 0x7f00_0000) (unsigned-at 0x7f00_0000 (lit< tt))) at h))
+own x z (inr e) h = absurd (lt_irrefl (pattern_units 0x7f00_0000) (rw (e, sized_units large false (pattern_units 0x7f00_0000) (unsigned_at 0x7f00_0000 (lit< tt))) at h))
 
-both-lt : (a b c d : ℕ) → square a + square b < square c → c ≤ d → (a < d) × (b < d)
-both-lt a b c d h l = let s = square_le l in (root-lt a d (omega arith), root-lt b d (omega arith))
+both_lt : (a b c d : ℕ) → square a + square b < square c → c ≤ d → (a < d) × (b < d)
+both_lt a b c d h l = let s = square_le l in (root_lt a d (omega arith), root_lt b d (omega arith))
 
 pub passed : (re im x y : Float) (p : ℕ) → T (fits binary32 re) → T (fits binary32 im) → (x ≡ re) ⊎ (x ≡ large) → (y ≡ im) ⊎ (y ≡ large) → p < 0x7f00_0000
-    → (lt (squared (of_bits binary32 p)) (sum_of x y) && lt (sum_of x y) (squared (of_bits binary32 (p + 1)))) ≡ true → of_bits binary32 p ≡ magnitudeOf re im
+    → (lt (squared (of_bits binary32 p)) (sum_of x y) && lt (sum_of x y) (squared (of_bits binary32 (p + 1)))) ≡ true → of_bits binary32 p ≡ magnitude_of re im
 passed re im x y p f g X Y h t =
     let test = both_true (lt (squared (of_bits binary32 p)) (sum_of x y)) (lt (sum_of x y) (squared (of_bits binary32 (p + 1)))) t in
-    let F = finite-parts binary64 x y (squared (of_bits binary32 (p + 1))) test.1 in
+    let F = finite_parts binary64 x y (squared (of_bits binary32 (p + 1))) test.1 in
     let a = square (units x) in
     let b = square (units y) in
-    let s = sum-at binary64 (squared x) (squared y) a b unit unit-pos (part x (held x re X f) F.0) (part y (held y im Y g) F.1) in
-    let low : square (patternUnits p) < a + b = rounded-lt binary64 (square (patternUnits p)) (a + b) unit unit-pos (rw (s, pattern-square p (omega arith)) at test.0) in
-    let high : a + b < square (patternUnits (p + 1)) = rounded-lt binary64 (a + b) (square (patternUnits (p + 1))) unit unit-pos (rw (s, pattern-square (p + 1) (omega arith)) at test.1) in
-    let u : (units x < patternUnits 0x7f00_0000) × (units y < patternUnits 0x7f00_0000) = both-lt (units x) (units y) (patternUnits (p + 1)) (patternUnits 0x7f00_0000) high (pattern-mono (p + 1) 0x7f00_0000 (omega arith)) in
-    rw (← own x re X u.0, ← own y im Y u.1, two-numbers x y F.0 F.1, between (a + b) p (omega arith) (le_of_lt low) high)
+    let s = sum_at binary64 (squared x) (squared y) a b unit unit_pos (part x (held x re X f) F.0) (part y (held y im Y g) F.1) in
+    let low : square (pattern_units p) < a + b = rounded_lt binary64 (square (pattern_units p)) (a + b) unit unit_pos (rw (s, pattern_square p (omega arith)) at test.0) in
+    let high : a + b < square (pattern_units (p + 1)) = rounded_lt binary64 (a + b) (square (pattern_units (p + 1))) unit unit_pos (rw (s, pattern_square (p + 1) (omega arith)) at test.1) in
+    let u : (units x < pattern_units 0x7f00_0000) × (units y < pattern_units 0x7f00_0000) = both_lt (units x) (units y) (pattern_units (p + 1)) (pattern_units 0x7f00_0000) high (pattern_mono (p + 1) 0x7f00_0000 (omega arith)) in
+    rw (← own x re X u.0, ← own y im Y u.1, two_numbers x y F.0 F.1, between (a + b) p (omega arith) (le_of_lt low) high)
 
 -- ---- what else `quick` needs: -1.0 is below 0.0, and a pattern below that of 2 ^ 127, or one more, is a number's
-pub below-zero : lt (neg (of_bits binary32 0x3f80_0000)) zeroF ≡ true
+pub below_zero : lt (neg (of_bits binary32 0x3f80_0000)) zero_f ≡ true
 unfolding lt neg of_bits
-below-zero = refl
+below_zero = refl
 
-pub not-nan-at : (p : ℕ) → p < 0x7f80_0000 → T (fits binary64 (of_bits binary32 p) && not (is_nan (of_bits binary32 p)))
-not-nan-at p h = and_i (fits binary64 (of_bits binary32 p)) (not (is_nan (of_bits binary32 p))) (fits_widens (of_bits binary32 p) (of_bits-fits binary32 p)) (rw nan_bits_is at (not-nan-bits p h))
+pub not_nan_at : (p : ℕ) → p < 0x7f80_0000 → T (fits binary64 (of_bits binary32 p) && not (is_nan (of_bits binary32 p)))
+not_nan_at p h = and_i (fits binary64 (of_bits binary32 p)) (not (is_nan (of_bits binary32 p))) (fits_widens (of_bits binary32 p) (of_bits-fits binary32 p)) (rw nan_bits_is at (not_nan_bits p h))

@@ -4,7 +4,7 @@ use Rattle.std.specs.Prelude.{ℕ, zero, suc, ◌+◌, ◌*◌, ◌/◌, ◌^◌
 use Rattle.std.specs.Float.{nan, inf, fin, binary32}
 use Rattle.std.specs.Float.Ieee.{up, down, of_bits}
 use Rattle.std.specs.Float.Ieee.Scale.{finite}
-use Rattle.dsp_types.specs.Samples.{zeroF}
+use Rattle.dsp_types.specs.Samples.{zero_f}
 
 -- the size of a finite f32 in units; `fin s m e` is m · 2 ^ e, and 2 ^ e is up e / down e
 unfoldable pub units : Float → ℕ
@@ -31,13 +31,13 @@ unfolding under raised
 largest n = raised (under n) 31 0
 
 -- the magnitude of the sample (re, im); 0.0 where a part is NaN or infinite
-unfoldable pub magnitudeOf : Float → Float → Float
+unfoldable pub magnitude_of : Float → Float → Float
 unfolding largest units of_bits
-magnitudeOf re im = cond (finite re && finite im) (of_bits binary32 (largest (square (units re) + square (units im)))) zeroF
+magnitude_of re im = cond (finite re && finite im) (of_bits binary32 (largest (square (units re) + square (units im)))) zero_f
 
 -- the magnitudes of samples (01, "The past") at the start of a buffer, as far as it and both lists of parts go; what is behind them stays
-unfoldable pub magnitudesIn : List Float → List Float → List Float → List Float
-magnitudesIn [] im out = out
-magnitudesIn (x ∷ re) [] out = out
-magnitudesIn (x ∷ re) (y ∷ im) [] = []
-magnitudesIn (x ∷ re) (y ∷ im) (o ∷ out) = magnitudeOf x y ∷ magnitudesIn re im out
+unfoldable pub magnitudes_in : List Float → List Float → List Float → List Float
+magnitudes_in [] im out = out
+magnitudes_in (x ∷ re) [] out = out
+magnitudes_in (x ∷ re) (y ∷ im) [] = []
+magnitudes_in (x ∷ re) (y ∷ im) (o ∷ out) = magnitude_of x y ∷ magnitudes_in re im out

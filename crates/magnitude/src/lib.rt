@@ -4,9 +4,9 @@
 ghost use Rattle.std.specs.Prelude.{◌≡◌, false, not, ◌⊎◌, T, length, get_or, ℕ, ◌+◌, ◌*◌, ◌/◌, ◌^◌, ◌<◌, ◌≤◌, max};
 ghost use Rattle.std.specs.Float.{nan, binary32, binary64};
 ghost use Rattle.std.specs.Float.Ieee.{is_nan, lt, of_bits, to_bits};
-ghost use Rattle.dsp_types.specs.Samples.{zeroF};
-ghost use Rattle.magnitude.specs.Magnitude.{magnitudeOf, magnitudesIn, largest, square};
-ghost use Rattle.magnitude.specs.Pattern.{size_of, exponentOf, significandOf, patternUnits, packedOf};
+ghost use Rattle.dsp_types.specs.Samples.{zero_f};
+ghost use Rattle.magnitude.specs.Magnitude.{magnitude_of, magnitudes_in, largest, square};
+ghost use Rattle.magnitude.specs.Pattern.{size_of, exponent_of, significand_of, pattern_units, packed_of};
 
 use dsp_types::least;
 
@@ -21,13 +21,13 @@ fn size(x: f32) -> u32
 // The patterns below 0x7f80_0000 are the finite values that are not negative, in order. Such a pattern is
 // exponent * 2^23 + significand and stands for significand * 2^exponent units, a unit being 2^-149.
 fn exponent(p: u32) -> u32
-    ensures { result ≡ exponentOf p }
+    ensures { result ≡ exponent_of p }
 {
     if p < 0x80_0000 { 0 } else { p / 0x80_0000 - 1 }
 }
 
 fn significand(p: u32) -> u64
-    ensures { result ≡ significandOf p }
+    ensures { result ≡ significand_of p }
 {
     if p < 0x80_0000 {
         p as u64
@@ -96,7 +96,7 @@ fn root(m: u64, z: u64) -> u64
 // The largest pattern that stands for at most g * 2^e units.
 fn packed(e: u32, g: u64) -> u32
     requires { (e < 254) × (g < 2 ^ 25) }
-    ensures { result ≡ packedOf e g }
+    ensures { result ≡ packed_of e g }
 {
     let p = if g < 0x100_0000 {
         e * 0x80_0000 + g as u32
@@ -110,7 +110,7 @@ fn packed(e: u32, g: u64) -> u32
 // larger part's exponent, the whole part of the square root has at most 25 digits.
 fn larger_first(a: u32, b: u32) -> u32
     requires { (b ≤ a) × (a < 0x7f80_0000) }
-    ensures { result ≡ largest (square (patternUnits a) + square (patternUnits b)) }
+    ensures { result ≡ largest (square (pattern_units a) + square (pattern_units b)) }
 {
     let e = exponent(a);
     let m = significand(a);
@@ -120,7 +120,7 @@ fn larger_first(a: u32, b: u32) -> u32
 
 // The pattern of the magnitude from those of its parts; 0 where a part is infinite.
 fn pattern(x: u32, y: u32) -> u32
-    ensures { (max x y < 0x7f80_0000 → result ≡ largest (square (patternUnits x) + square (patternUnits y))) × (0x7f80_0000 ≤ max x y → result ≡ 0) }
+    ensures { (max x y < 0x7f80_0000 → result ≡ largest (square (pattern_units x) + square (pattern_units y))) × (0x7f80_0000 ≤ max x y → result ≡ 0) }
 {
     if x >= 0x7f80_0000 {
         return 0;
@@ -136,7 +136,7 @@ fn pattern(x: u32, y: u32) -> u32
 
 // The magnitude by whole numbers, for any parts: where the quick test does not tell it.
 fn exact(re: f32, im: f32) -> f32
-    ensures { result ≡ magnitudeOf re im }
+    ensures { result ≡ magnitude_of re im }
 {
     if re != re {
         return 0.0;
@@ -196,7 +196,7 @@ fn capped_pattern(p: u32) -> u32
 // rounded sum lies between the squares of an f32 and the next, so does the exact one. Nothing is proved of the guess r; all
 // but one in 10,000 pass, and none that is the root exactly. There is no branch, so that a block is vectorised.
 fn quick(re: f32, im: f32) -> f32
-    ensures { lt result zeroF ≡ false → result ≡ magnitudeOf re im }
+    ensures { lt result zero_f ≡ false → result ≡ magnitude_of re im }
 {
     let x = capped(re) as f64;
     let y = capped(im) as f64;
@@ -214,7 +214,7 @@ fn quick(re: f32, im: f32) -> f32
 
 // The largest f32 whose square is not above re² + im²; 0.0 where a part is NaN or infinite.
 pub fn magnitude(re: f32, im: f32) -> f32
-    ensures { result ≡ magnitudeOf re im }
+    ensures { result ≡ magnitude_of re im }
 {
     let r = quick(re, im);
     if r < 0.0 {
@@ -225,7 +225,7 @@ pub fn magnitude(re: f32, im: f32) -> f32
 
 // Whether some value is below 0. It looks at every one, so that the compiler can take many at once.
 fn any_below(xs: &[f32]) -> bool
-    ensures { result ≡ false → (k : ℕ) → k < length xs.now → lt (get_or xs.now k nan) zeroF ≡ false }
+    ensures { result ≡ false → (k : ℕ) → k < length xs.now → lt (get_or xs.now k nan) zero_f ≡ false }
 {
     let mut found = false;
     for i in 0..xs.len() {
@@ -236,7 +236,7 @@ fn any_below(xs: &[f32]) -> bool
 
 // The magnitudes of samples, as many as all three slices have room for. What is behind them in `out` stays.
 pub fn magnitudes(re: &[f32], im: &[f32], out: &mut [f32])
-    ensures { out.new ≡ magnitudesIn re.now im.now out.old }
+    ensures { out.new ≡ magnitudes_in re.now im.now out.old }
 {
     let n = least(least(re.len(), im.len()), out.len());
     for i in 0..n {

@@ -10,115 +10,115 @@ use lib.ListN.{get_or, length, get_or-eq_default}
 use lib.Signed.{mag}
 use borrow.Author.Tests.{ltb-false, lt-ltb, le-ltb, eq-eqb, ne_eqb}
 use Rattle.dsp_types.proofs.IntLaws.{less, same}
-use Rattle.dsp_types.specs.Refusals.{lastCounter, outOfCount, wrongLength, notBits}
+use Rattle.dsp_types.specs.Refusals.{last_counter, out_of_count, wrong_length, not_bits}
 use Rattle.mapper.specs.declared.Due.{Due}
 use Rattle.mapper.specs.declared.Due.TheVariants.{Refused, Silence, Symbol}
-use Rattle.mapper.specs.Due.{bitsRefusal, slotRefusal, inputRefusal, bit_at, symbolDue, dueIn, due_at, dueIf}
+use Rattle.mapper.specs.Due.{bits_refusal, slot_refusal, input_refusal, bit_at, symbol_due, due_in, due_at, due_if}
 
 -- ---- refusals from the input
 
 module _ (bits : List ℕ) where
-  pub no_bits : (b : Bool) → b ≡ false → 0 ≡ bitsRefusal b bits
-  unfolding bitsRefusal
+  pub no_bits : (b : Bool) → b ≡ false → 0 ≡ bits_refusal b bits
+  unfolding bits_refusal
   no_bits true e = absurd (true≢false e)
   no_bits false e = refl
 
-  pub wrong-bits : (b : Bool) → b ≡ true → (length bits ≡ 510 → ⊥) → 3 ≡ bitsRefusal b bits
-  unfolding bitsRefusal wrongLength
-  wrong-bits true e h = rw (ne_eqb (length bits) 510 h)
-  wrong-bits false e h = absurd (true≢false (sym e))
+  pub wrong_bits : (b : Bool) → b ≡ true → (length bits ≡ 510 → ⊥) → 3 ≡ bits_refusal b bits
+  unfolding bits_refusal wrong_length
+  wrong_bits true e h = rw (ne_eqb (length bits) 510 h)
+  wrong_bits false e h = absurd (true≢false (sym e))
 
-  pub bad-bits : (b : Bool) → b ≡ true → length bits ≡ 510 → notBits bits ≡ true → 4 ≡ bitsRefusal b bits
-  unfolding bitsRefusal wrongLength
-  bad-bits true e h k = rw (eq-eqb (length bits) 510 h, k)
-  bad-bits false e h k = absurd (true≢false (sym e))
+  pub bad_bits : (b : Bool) → b ≡ true → length bits ≡ 510 → not_bits bits ≡ true → 4 ≡ bits_refusal b bits
+  unfolding bits_refusal wrong_length
+  bad_bits true e h k = rw (eq-eqb (length bits) 510 h, k)
+  bad_bits false e h k = absurd (true≢false (sym e))
 
-  pub good-bits : (b : Bool) → b ≡ true → length bits ≡ 510 → notBits bits ≡ false → 0 ≡ bitsRefusal b bits
-  unfolding bitsRefusal wrongLength
-  good-bits true e h k = rw (eq-eqb (length bits) 510 h, k)
-  good-bits false e h k = absurd (true≢false (sym e))
+  pub good_bits : (b : Bool) → b ≡ true → length bits ≡ 510 → not_bits bits ≡ false → 0 ≡ bits_refusal b bits
+  unfolding bits_refusal wrong_length
+  good_bits true e h k = rw (eq-eqb (length bits) 510 h, k)
+  good_bits false e h k = absurd (true≢false (sym e))
 
-pub refused-bits : (slot n : ℕ) → (n ≡ 0 → ⊥) → n ≡ slotRefusal slot n
-unfolding slotRefusal
-refused-bits slot zero h = absurd (h refl)
-refused-bits slot (suc n) h = refl
+pub refused_bits : (slot n : ℕ) → (n ≡ 0 → ⊥) → n ≡ slot_refusal slot n
+unfolding slot_refusal
+refused_bits slot zero h = absurd (h refl)
+refused_bits slot (suc n) h = refl
 
 -- ---- what an accepted call has
 
-module _ (c : ℤ) (slot : ℕ) (b : Bool) (bits : List ℕ) (h : inputRefusal c slot b bits ≡ 0) where
-  counted : outOfCount c ≡ false
-  unfolding inputRefusal
-  counted = go (outOfCount c) refl
+module _ (c : ℤ) (slot : ℕ) (b : Bool) (bits : List ℕ) (h : input_refusal c slot b bits ≡ 0) where
+  counted : out_of_count c ≡ false
+  unfolding input_refusal
+  counted = go (out_of_count c) refl
     where
-      go : (o : Bool) → outOfCount c ≡ o → o ≡ false
+      go : (o : Bool) → out_of_count c ≡ o → o ≡ false
       go true e = absurd (omega (arith, rw e at h))
       go false e = refl
 
-  pub accepted-count : (c ≡ pos (mag c)) × (mag c ≤ lastCounter)
-  unfolding outOfCount
-  accepted-count = go c counted
+  pub accepted_count : (c ≡ pos (mag c)) × (mag c ≤ last_counter)
+  unfolding out_of_count
+  accepted_count = go c counted
     where
-      go : (z : ℤ) → outOfCount z ≡ false → (z ≡ pos (mag z)) × (mag z ≤ lastCounter)
-      go (pos n) e = (refl, omega (arith, ltb-false lastCounter n e))
+      go : (z : ℤ) → out_of_count z ≡ false → (z ≡ pos (mag z)) × (mag z ≤ last_counter)
+      go (pos n) e = (refl, omega (arith, ltb-false last_counter n e))
       go (negsuc n) e = absurd (true≢false e)
 
-  pub slot-accepted : slotRefusal slot (bitsRefusal b bits) ≡ 0
-  unfolding inputRefusal
-  slot-accepted = rw counted at h
+  pub slot_accepted : slot_refusal slot (bits_refusal b bits) ≡ 0
+  unfolding input_refusal
+  slot_accepted = rw counted at h
 
 -- ---- what is due in a slot
 
 module _ (n start : ℕ) where
-  place-early : n < start → pos n -ℤ pos start ≡ negsuc (start - suc n)
-  place-early h = same _ _ (omega (arith, less (pos n) (pos start)))
+  place_early : n < start → pos n -ℤ pos start ≡ negsuc (start - suc n)
+  place_early h = same _ _ (omega (arith, less (pos n) (pos start)))
 
-  place-within : start ≤ n → pos n -ℤ pos start ≡ pos (n - start)
-  place-within h = same _ _ (omega (arith, less (pos n) (pos start)))
+  place_within : start ≤ n → pos n -ℤ pos start ≡ pos (n - start)
+  place_within h = same _ _ (omega (arith, less (pos n) (pos start)))
 
   module _ (b : Bool) (bits : List ℕ) where
     pub early : n < start → Silence ≡ due_at b bits (pos n -ℤ pos start)
     unfolding due_at
-    early h = rw (place-early h)
+    early h = rw (place_early h)
 
     pub late : start ≤ n → 1020 ≤ n - start → Refused 12 ≡ due_at b bits (pos n -ℤ pos start)
     unfolding due_at
-    late h k = rw (place-within h, le-ltb (n - start) 1020 k)
+    late h k = rw (place_within h, le-ltb (n - start) 1020 k)
 
-    pub within : start ≤ n → n - start < 1020 → due_at b bits (pos n -ℤ pos start) ≡ dueIn b bits (n - start)
+    pub within : start ≤ n → n - start < 1020 → due_at b bits (pos n -ℤ pos start) ≡ due_in b bits (n - start)
     unfolding due_at
-    within h k = rw (place-within h, lt-ltb (n - start) 1020 k)
+    within h k = rw (place_within h, lt-ltb (n - start) 1020 k)
 
-absent-in : (b : Bool) (bits : List ℕ) (p : ℕ) → b ≡ false → Silence ≡ dueIn b bits p
-unfolding dueIn
-absent-in true bits p e = absurd (true≢false e)
-absent-in false bits p e = refl
+absent_in : (b : Bool) (bits : List ℕ) (p : ℕ) → b ≡ false → Silence ≡ due_in b bits p
+unfolding due_in
+absent_in true bits p e = absurd (true≢false e)
+absent_in false bits p e = refl
 
-between_in : (b : Bool) (bits : List ℕ) (p : ℕ) → b ≡ true → (p % 4 ≡ 0 → ⊥) → Silence ≡ dueIn b bits p
-unfolding dueIn
+between_in : (b : Bool) (bits : List ℕ) (p : ℕ) → b ≡ true → (p % 4 ≡ 0 → ⊥) → Silence ≡ due_in b bits p
+unfolding due_in
 between_in true bits p e h = rw (ne_eqb (p % 4) 0 h)
 between_in false bits p e h = absurd (true≢false (sym e))
 
-symbol-in : (b : Bool) (bits : List ℕ) (p : ℕ) → b ≡ true → p % 4 ≡ 0 → symbolDue bits p ≡ dueIn b bits p
-unfolding dueIn
-symbol-in true bits p e h = rw (eq-eqb (p % 4) 0 h)
-symbol-in false bits p e h = absurd (true≢false (sym e))
+symbol_in : (b : Bool) (bits : List ℕ) (p : ℕ) → b ≡ true → p % 4 ≡ 0 → symbol_due bits p ≡ due_in b bits p
+unfolding due_in
+symbol_in true bits p e h = rw (eq-eqb (p % 4) 0 h)
+symbol_in false bits p e h = absurd (true≢false (sym e))
 
 module _ (n start : ℕ) (b : Bool) (bits : List ℕ) (h : start ≤ n) (k : n - start < 1020) where
   pub absent : b ≡ false → Silence ≡ due_at b bits (pos n -ℤ pos start)
-  absent e = absent-in b bits _ e ∙ sym (within n start b bits h k)
+  absent e = absent_in b bits _ e ∙ sym (within n start b bits h k)
 
   pub between : b ≡ true → ((n - start) % 4 ≡ 0 → ⊥) → Silence ≡ due_at b bits (pos n -ℤ pos start)
   between e f = between_in b bits _ e f ∙ sym (within n start b bits h k)
 
   pub symbol : b ≡ true → (n - start) % 4 ≡ 0 → (i : ℕ) → i ≡ (n - start) / 4 * 2
       → Symbol (bit_at bits i) (bit_at bits (i + 1)) ≡ due_at b bits (pos n -ℤ pos start)
-  unfolding symbolDue
+  unfolding symbol_due
   symbol e f i g =
       let j : i ≡ 2 * ((n - start) / 4) = omega (arith, g) in
-      rw j (symbol-in b bits _ e f ∙ sym (within n start b bits h k))
+      rw j (symbol_in b bits _ e f ∙ sym (within n start b bits h k))
 
-pub refused : (n : ℕ) (d : Due) → (n ≡ 0 → ⊥) → Refused n ≡ dueIf n d
-unfolding dueIf
+pub refused : (n : ℕ) (d : Due) → (n ≡ 0 → ⊥) → Refused n ≡ due_if n d
+unfolding due_if
 refused zero d h = absurd (h refl)
 refused (suc n) d h = refl
 

@@ -3,44 +3,44 @@ use Rattle.std.specs.Prelude.{ℕ, ◌+◌, ◌%◌, Bool, List, [], ◌∷◌, 
 use Rattle.std.specs.Float.{binary32, nan}
 use Rattle.std.specs.Float.Ieee.{of_bits}
 use Rattle.dsp_types.specs.declared.ComplexSample.{ComplexSample}
-use Rattle.dsp_types.specs.Phases.{bit_of, phaseOf, modulo8}
+use Rattle.dsp_types.specs.Phases.{bit_of, phase_of, modulo8}
 use Rattle.dsp_types.specs.Samples.{silence}
 use Rattle.mapper.specs.declared.Due.{Due}
 use Rattle.mapper.specs.declared.Due.TheVariants.{Refused, Silence, Symbol}
 
 -- the phase of a symbol's two bits, modulo 8 (01, "The sender")
 unfoldable pub turn_of : Bool → Bool → ℕ
-turn_of bit0 bit1 = modulo8 (phaseOf (bit_of bit0) (bit_of bit1))
+turn_of bit0 bit1 = modulo8 (phase_of (bit_of bit0) (bit_of bit1))
 
 -- the phase after a symbol
-unfoldable pub nextPhase : ℕ → Bool → Bool → ℕ
-nextPhase phase bit0 bit1 = (phase + turn_of bit0 bit1) % 8
+unfoldable pub next_phase : ℕ → Bool → Bool → ℕ
+next_phase phase bit0 bit1 = (phase + turn_of bit0 bit1) % 8
 
 -- the constellation (CONSTELLATION), as f32 bit patterns: 1.0 is 0x3f800000, 0.707107 is 0x3f3504f7, and 0x80000000 is their sign
-unfoldable pub pointsRe : List Float
-pointsRe =
+unfoldable pub points_re : List Float
+points_re =
     of_bits binary32 0x3f80_0000 ∷ of_bits binary32 0x3f35_04f7 ∷ of_bits binary32 0 ∷ of_bits binary32 0xbf35_04f7
     ∷ of_bits binary32 0xbf80_0000 ∷ of_bits binary32 0xbf35_04f7 ∷ of_bits binary32 0x8000_0000 ∷ of_bits binary32 0x3f35_04f7
     ∷ []
 
 -- ... and their imaginary parts
-unfoldable pub pointsIm : List Float
-pointsIm =
+unfoldable pub points_im : List Float
+points_im =
     of_bits binary32 0 ∷ of_bits binary32 0x3f35_04f7 ∷ of_bits binary32 0x3f80_0000 ∷ of_bits binary32 0x3f35_04f7
     ∷ of_bits binary32 0 ∷ of_bits binary32 0xbf35_04f7 ∷ of_bits binary32 0xbf80_0000 ∷ of_bits binary32 0xbf35_04f7
     ∷ []
 
 -- the point of a phase
 unfoldable pub point_of : ℕ → ComplexSample
-point_of phase = record { re = get_or pointsRe (phase % 8) nan; im = get_or pointsIm (phase % 8) nan }
+point_of phase = record { re = get_or points_re (phase % 8) nan; im = get_or points_im (phase % 8) nan }
 
 -- ---- one call of the sender
 
 -- the phase after what is due: a symbol steps it
-unfoldable pub phaseAfter : ℕ → Due → ℕ
-phaseAfter phase (Refused n) = phase
-phaseAfter phase Silence = phase
-phaseAfter phase (Symbol bit0 bit1) = nextPhase phase bit0 bit1
+unfoldable pub phase_after : ℕ → Due → ℕ
+phase_after phase (Refused n) = phase
+phase_after phase Silence = phase
+phase_after phase (Symbol bit0 bit1) = next_phase phase bit0 bit1
 
 -- what is fed to the filter, where this is the phase after what is due
 unfoldable pub input_of : ℕ → Due → ComplexSample

@@ -1,6 +1,6 @@
 -- What is due in a call of the sender (01, "The sender", "Refusals"; modulator.rs, `Modulator::sample`): its refusal, or what it feeds. Definitions only.
 use Rattle.std.specs.Prelude.{ℕ, zero, suc, ◌+◌, ◌*◌, ◌/◌, ◌%◌, Bool, true, false, not, ◌&&◌, cond, List, ltb, eqb, ℤ, pos, negsuc, ◌+ℤ◌, ◌-ℤ◌, get_or}
-use Rattle.dsp_types.specs.Refusals.{accepted, badCounter, badLength, badBit, badSlot, needMoreData, outOfCount, wrongLength, notBits}
+use Rattle.dsp_types.specs.Refusals.{accepted, bad_counter, bad_length, bad_bit, bad_slot, need_more_data, out_of_count, wrong_length, not_bits}
 use Rattle.dsp_types.specs.Times.{slots}
 use Rattle.mapper.specs.declared.Due.{Due}
 use Rattle.mapper.specs.declared.Due.TheVariants.{Refused, Silence, Symbol}
@@ -8,18 +8,18 @@ use Rattle.mapper.specs.declared.Due.TheVariants.{Refused, Silence, Symbol}
 -- ---- refusals from the input
 
 -- bits, where a slot has any, are 510 bytes that are 0 or 1
-unfoldable pub bitsRefusal : Bool → List ℕ → ℕ
-bitsRefusal false bits = accepted
-bitsRefusal true bits = cond (wrongLength 510 bits) badLength (cond (notBits bits) badBit accepted)
+unfoldable pub bits_refusal : Bool → List ℕ → ℕ
+bits_refusal false bits = accepted
+bits_refusal true bits = cond (wrong_length 510 bits) bad_length (cond (not_bits bits) bad_bit accepted)
 
 -- a refusal of the bits has a smaller number than one of the slot
-unfoldable pub slotRefusal : ℕ → ℕ → ℕ
-slotRefusal slot zero = cond (ltb slot slots) accepted badSlot
-slotRefusal slot (suc n) = suc n
+unfoldable pub slot_refusal : ℕ → ℕ → ℕ
+slot_refusal slot zero = cond (ltb slot slots) accepted bad_slot
+slot_refusal slot (suc n) = suc n
 
 -- the smallest number that holds of a call's input
-unfoldable pub inputRefusal : ℤ → ℕ → Bool → List ℕ → ℕ
-inputRefusal counter slot hasBits bits = cond (outOfCount counter) badCounter (slotRefusal slot (bitsRefusal hasBits bits))
+unfoldable pub input_refusal : ℤ → ℕ → Bool → List ℕ → ℕ
+input_refusal counter slot has_bits bits = cond (out_of_count counter) bad_counter (slot_refusal slot (bits_refusal has_bits bits))
 
 -- ---- what is due
 
@@ -36,29 +36,29 @@ unfoldable pub bit_at : List ℕ → ℕ → Bool
 bit_at bits i = not (eqb (get_or bits i 0) 0)
 
 -- the symbol that starts at place n of a slot, at every fourth sample
-unfoldable pub symbolDue : List ℕ → ℕ → Due
-symbolDue bits n = Symbol (bit_at bits (2 * (n / 4))) (bit_at bits (2 * (n / 4) + 1))
+unfoldable pub symbol_due : List ℕ → ℕ → Due
+symbol_due bits n = Symbol (bit_at bits (2 * (n / 4))) (bit_at bits (2 * (n / 4) + 1))
 
 -- within a slot: a symbol, where the slot has bits and one starts here
-unfoldable pub dueIn : Bool → List ℕ → ℕ → Due
-dueIn hasBits bits n = cond (hasBits && eqb (n % 4) 0) (symbolDue bits n) Silence
+unfoldable pub due_in : Bool → List ℕ → ℕ → Due
+due_in has_bits bits n = cond (has_bits && eqb (n % 4) 0) (symbol_due bits n) Silence
 
 -- a slot in the future feeds silence, one in the past needs the next
 unfoldable pub due_at : Bool → List ℕ → ℤ → Due
-due_at hasBits bits (negsuc n) = Silence
-due_at hasBits bits (pos n) = cond (ltb n 1020) (dueIn hasBits bits n) (Refused needMoreData)
+due_at has_bits bits (negsuc n) = Silence
+due_at has_bits bits (pos n) = cond (ltb n 1020) (due_in has_bits bits n) (Refused need_more_data)
 
 -- a refusal from the input comes before one from the state
-unfoldable pub dueIf : ℕ → Due → Due
-dueIf zero due = due
-dueIf (suc n) due = Refused (suc n)
+unfoldable pub due_if : ℕ → Due → Due
+due_if zero due = due
+due_if (suc n) due = Refused (suc n)
 
 -- what is due in a call
-unfoldable pub dueOf : ℤ → ℕ → Bool → List ℕ → Due
-dueOf counter slot hasBits bits = dueIf (inputRefusal counter slot hasBits bits) (due_at hasBits bits (place_in counter (start_of slot)))
+unfoldable pub due_of : ℤ → ℕ → Bool → List ℕ → Due
+due_of counter slot has_bits bits = due_if (input_refusal counter slot has_bits bits) (due_at has_bits bits (place_in counter (start_of slot)))
 
 -- the number by which a call is refused, or 0
-unfoldable pub dueRefusal : Due → ℕ
-dueRefusal (Refused n) = n
-dueRefusal Silence = accepted
-dueRefusal (Symbol bit0 bit1) = accepted
+unfoldable pub due_refusal : Due → ℕ
+due_refusal (Refused n) = n
+due_refusal Silence = accepted
+due_refusal (Symbol bit0 bit1) = accepted

@@ -5,7 +5,7 @@
 mod slot;
 
 ghost use Rattle.std.specs.Prelude.{◌≡◌};
-ghost use Rattle.mapper.specs.Dqpsk.{turn_of, nextPhase, point_of, phaseAfter, input_of};
+ghost use Rattle.mapper.specs.Dqpsk.{turn_of, next_phase, point_of, phase_after, input_of};
 
 use dsp_types::ComplexSample;
 pub use slot::{due_at, due_now, refusal_now, start_of};
@@ -47,7 +47,7 @@ fn turn(bit0: bool, bit1: bool) -> u8
 }
 
 fn next_phase(phase: u8, bit0: bool, bit1: bool) -> u8
-    ensures { result ≡ nextPhase phase bit0 bit1 }
+    ensures { result ≡ next_phase phase bit0 bit1 }
 {
     (phase % 8 + turn(bit0, bit1)) % 8
 }
@@ -66,7 +66,7 @@ fn point(phase: u8) -> ComplexSample
 
 // The phase after what is due.
 pub fn phase_after(phase: u8, due: Due) -> u8
-    ensures { result ≡ phaseAfter phase due }
+    ensures { result ≡ phase_after phase due }
 {
     match due {
         Due::Symbol(bit0, bit1) => next_phase(phase, bit0, bit1),
@@ -95,8 +95,8 @@ impl DqpskMapper {
 
     // A symbol steps the caller's phase and gives its point; anything else leaves the phase and is silence.
     pub fn symbol(&mut self, due: Due) -> ComplexSample
-        ensures { (self.new.phase ≡ phaseAfter self.old.phase due)
-            × (result ≡ input_of (phaseAfter self.old.phase due) due) }
+        ensures { (self.new.phase ≡ phase_after self.old.phase due)
+            × (result ≡ input_of (phase_after self.old.phase due) due) }
     {
         let phase = phase_after(self.phase, due);
         self.phase = phase;

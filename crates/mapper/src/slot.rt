@@ -1,6 +1,6 @@
 // What is due in a call of the sender.
 ghost use Rattle.std.specs.Prelude.{◌≡◌, ◌<◌, ◌^◌, pos, ◌-ℤ◌};
-ghost use Rattle.mapper.specs.Due.{bitsRefusal, inputRefusal, start_of, bit_at, due_at, dueOf, dueRefusal};
+ghost use Rattle.mapper.specs.Due.{bits_refusal, input_refusal, start_of, bit_at, due_at, due_of, due_refusal};
 
 use crate::Due;
 use dsp_types::{
@@ -9,7 +9,7 @@ use dsp_types::{
 };
 
 fn bits_refusal(has_bits: bool, bits: &[u8]) -> u32
-    ensures { result ≡ bitsRefusal has_bits bits.now }
+    ensures { result ≡ bits_refusal has_bits bits.now }
 {
     if !has_bits {
         return ACCEPTED;
@@ -24,7 +24,7 @@ fn bits_refusal(has_bits: bool, bits: &[u8]) -> u32
 }
 
 fn input_refusal(counter: i64, slot: u32, has_bits: bool, bits: &[u8]) -> u32
-    ensures { result ≡ inputRefusal counter slot has_bits bits.now }
+    ensures { result ≡ input_refusal counter slot has_bits bits.now }
 {
     if SampleCount(counter).is_out_of_count() {
         return BAD_COUNTER;
@@ -81,7 +81,7 @@ pub fn due_at(count: u64, start: u64, has_bits: bool, bits: &[u8]) -> Due
 
 // The filter's delay of 16 samples is made up for.
 pub fn due_now(counter: SampleCount, slot: TdmaTime, has_bits: bool, bits: &[u8]) -> Due
-    ensures { result ≡ dueOf counter.0 slot.0 has_bits bits.now }
+    ensures { result ≡ due_of counter.0 slot.0 has_bits bits.now }
 {
     let refusal = input_refusal(counter.0, slot.0, has_bits, bits);
     if refusal != ACCEPTED {
@@ -97,7 +97,7 @@ pub fn due_now(counter: SampleCount, slot: TdmaTime, has_bits: bool, bits: &[u8]
 
 // The number by which a call is refused, or 0.
 pub fn refusal_now(counter: SampleCount, slot: TdmaTime, has_bits: bool, bits: &[u8]) -> u32
-    ensures { result ≡ dueRefusal (dueOf counter.0 slot.0 has_bits bits.now) }
+    ensures { result ≡ due_refusal (due_of counter.0 slot.0 has_bits bits.now) }
 {
     let due = due_now(counter, slot, has_bits, bits);
     match due {

@@ -3,28 +3,28 @@ use mathlib.Core.Path.{◌≡◌}
 use mathlib.Core.List.{List}
 use Prim.Native.Nat.{ℕ}
 use Rattle.slotter.specs.Bursts.{BuilderReply}
-use Rattle.slotter.specs.Uplink.{UplinkReply, uplinkNumber, uplinkBits}
-use Rattle.modem.specs.Build.{lendRefusal, lentUnless, buildRefusal, lentBurst, uplinkRefusal, lentUplink}
+use Rattle.slotter.specs.Uplink.{UplinkReply, uplink_number, uplink_bits}
+use Rattle.modem.specs.Build.{lend_refusal, lent_unless, build_refusal, lent_burst, uplink_refusal, lent_uplink}
 
 -- what `lend` leaves
-abbrev lendLeaves : (n number : ℕ) (burst bits : List ℕ) → List ℕ
-lendLeaves n number burst bits = lentUnless (lendRefusal n number bits) burst bits
+abbrev lend_leaves : (n number : ℕ) (burst bits : List ℕ) → List ℕ
+lend_leaves n number burst bits = lent_unless (lend_refusal n number bits) burst bits
 
 -- of a builder's reply: n bits, a number and the bits
 module _ (reply : BuilderReply) (bits : List ℕ) {n number : ℕ} (l : n ≡ 510) (e : number ≡ reply.number) where
-  pub downlink-refusal : lendRefusal n number bits ≡ buildRefusal reply bits
-  unfolding buildRefusal
-  downlink-refusal = rw (l, e)
+  pub downlink_refusal : lend_refusal n number bits ≡ build_refusal reply bits
+  unfolding build_refusal
+  downlink_refusal = rw (l, e)
 
-  pub downlink-left : {built : List ℕ} → built ≡ reply.bits → lendLeaves n number built bits ≡ lentBurst reply bits
-  unfolding lentBurst
-  downlink-left p = rw (downlink-refusal, p)
+  pub downlink_left : {built : List ℕ} → built ≡ reply.bits → lend_leaves n number built bits ≡ lent_burst reply bits
+  unfolding lent_burst
+  downlink_left p = rw (downlink_refusal, p)
 
-module _ (m : ℕ) (reply : UplinkReply) (bits : List ℕ) {n number : ℕ} (l : n ≡ m) (e : number ≡ uplinkNumber reply) where
-  pub uplink-refusal : lendRefusal n number bits ≡ uplinkRefusal m reply bits
-  unfolding uplinkRefusal
-  uplink-refusal = rw (l, e)
+module _ (m : ℕ) (reply : UplinkReply) (bits : List ℕ) {n number : ℕ} (l : n ≡ m) (e : number ≡ uplink_number reply) where
+  pub uplink_refusal_lem : lend_refusal n number bits ≡ uplink_refusal m reply bits
+  unfolding uplink_refusal
+  uplink_refusal_lem = rw (l, e)
 
-  pub uplink-left : {built : List ℕ} → built ≡ uplinkBits reply → lendLeaves n number built bits ≡ lentUplink m reply bits
-  unfolding lentUplink
-  uplink-left p = rw (uplink-refusal, p)
+  pub uplink_left : {built : List ℕ} → built ≡ uplink_bits reply → lend_leaves n number built bits ≡ lent_uplink m reply bits
+  unfolding lent_uplink
+  uplink_left p = rw (uplink_refusal_lem, p)

@@ -7,39 +7,39 @@ use Rattle.receiver.specs.declared.feed.Stop.{Stop}
 use Rattle.slot_receiver.specs.Calls.{Reply, refused, done, took}
 
 -- 01, "Refusals": the refusal's number, or 0
-unfoldable pub replyNumber : {Slot : Type 0} → Reply Slot → ℕ
-replyNumber (refused n) = n
-replyNumber done = accepted
-replyNumber (took s) = accepted
+unfoldable pub reply_number : {Slot : Type 0} → Reply Slot → ℕ
+reply_number (refused n) = n
+reply_number done = accepted
+reply_number (took s) = accepted
 
 -- 01, "Refusals": a refusal returns its number alone, so the slot beside it is all zeros
-abbrev pub zeroBurst : RxBurst
-zeroBurst = record { train_type = 0; train_errs = 0; burst_pos = 0; burst_len = 0 }
+abbrev pub zero_burst : RxBurst
+zero_burst = record { train_type = 0; train_errs = 0; burst_pos = 0; burst_len = 0 }
 
-abbrev pub emptySlot : RxSlot
-emptySlot =
+abbrev pub empty_slot : RxSlot
+empty_slot =
     record {
       time = record { 0 = 0 };
       closing_counter = record { 0 = pos 0 };
-      full = zeroBurst;
-      subslot1 = zeroBurst;
-      subslot2 = zeroBurst;
+      full = zero_burst;
+      subslot1 = zero_burst;
+      subslot2 = zero_burst;
     }
 
 -- the slot that was taken
-unfoldable pub slotTaken : Reply RxSlot → RxSlot
-slotTaken (refused n) = emptySlot
-slotTaken done = emptySlot
-slotTaken (took s) = s
+unfoldable pub slot_taken : Reply RxSlot → RxSlot
+slot_taken (refused n) = empty_slot
+slot_taken done = empty_slot
+slot_taken (took s) = s
 
 -- 01, "The receiver": whether a block ended with a sample that handed a slot over
-abbrev pub handsSlot : Stop → Bool
-handsSlot Stop.End = false
-handsSlot Stop.Slot = true
-handsSlot (Stop.Refused n) = false
+abbrev pub hands_slot : Stop → Bool
+hands_slot Stop.End = false
+hands_slot Stop.Slot = true
+hands_slot (Stop.Refused n) = false
 
 -- 01, "Refusals": the number by which the next sample is refused, or 0
-abbrev pub stopRefusal : Stop → ℕ
-stopRefusal Stop.End = accepted
-stopRefusal Stop.Slot = accepted
-stopRefusal (Stop.Refused n) = n
+abbrev pub stop_refusal : Stop → ℕ
+stop_refusal Stop.End = accepted
+stop_refusal Stop.Slot = accepted
+stop_refusal (Stop.Refused n) = n

@@ -1,9 +1,9 @@
 // The sender: its state and its phase record go in by value, and the next ones come back.
 ghost use Rattle.std.specs.Prelude.{◌≡◌, ◌/◌, length};
-ghost use Rattle.mapper.specs.Due.{dueOf};
-ghost use Rattle.modulator.specs.Sender.{senderReply, newSender, tells, senderAfter};
-ghost use Rattle.modulator.specs.Blocks.{dueAfter, blockCall, Wrote};
-ghost use Rattle.modem.specs.Send.{isGiven, senderIn, sampleTold};
+ghost use Rattle.mapper.specs.Due.{due_of};
+ghost use Rattle.modulator.specs.Sender.{sender_reply, new_sender, tells, sender_after};
+ghost use Rattle.modulator.specs.Blocks.{due_after, block_call, Wrote};
+ghost use Rattle.modem.specs.Send.{is_given, sender_in, sample_told};
 
 use dsp_types::{ACCEPTED, SampleCount, TdmaTime};
 use modulator::{Answer, DqpskMapper, Modulator};
@@ -42,9 +42,9 @@ struct Parts {
     pub im: f32,
 }
 
-#[tactic(auto, unfolding(modulator::specs::Sender::senderReply, crate::specs::Send::firstOrSilence, crate::specs::Send::sampleTold))]
+#[tactic(auto, unfolding(modulator::specs::Sender::sender_reply, crate::specs::Send::first_or_silence, crate::specs::Send::sample_told))]
 fn told_parts(answer: Answer) -> Parts
-    ensures { (result.refusal ≡ (senderReply answer).number) × (record { re = result.re; im = result.im } ≡ sampleTold (senderReply answer)) }
+    ensures { (result.refusal ≡ (sender_reply answer).number) × (record { re = result.re; im = result.im } ≡ sample_told (sender_reply answer)) }
 {
     match answer {
         Answer::Sample { re, im } => Parts {
@@ -63,7 +63,7 @@ fn told_parts(answer: Answer) -> Parts
 // A new sender, at phase 0.
 #[unsafe(no_mangle)]
 pub extern "C" fn tetra_sender_new() -> TetraSender
-    ensures { senderIn result ≡ newSender }
+    ensures { sender_in result ≡ new_sender }
 {
     let modulator = Modulator::new();
     let mapper = DqpskMapper::new();
@@ -79,9 +79,9 @@ pub extern "C" fn tetra_send_sample(
     has_bits: u32,
     bits: &[u8],
 ) -> TetraSentSample
-    ensures refusal { result.refusal ≡ (tells (senderIn sender) (dueOf counter slot (isGiven has_bits) bits.now)).number }
-    ensures sample { record { re = result.re; im = result.im } ≡ sampleTold (tells (senderIn sender) (dueOf counter slot (isGiven has_bits) bits.now)) }
-    ensures sender { senderIn result.sender ≡ senderAfter (senderIn sender) (dueOf counter slot (isGiven has_bits) bits.now) }
+    ensures refusal { result.refusal ≡ (tells (sender_in sender) (due_of counter slot (is_given has_bits) bits.now)).number }
+    ensures sample { record { re = result.re; im = result.im } ≡ sample_told (tells (sender_in sender) (due_of counter slot (is_given has_bits) bits.now)) }
+    ensures sender { sender_in result.sender ≡ sender_after (sender_in sender) (due_of counter slot (is_given has_bits) bits.now) }
     ensures kept { (result.refusal ≡ 0 → ⊥) → result.sender ≡ sender }
 {
     let state = sender.modulator;
@@ -116,8 +116,8 @@ pub extern "C" fn tetra_send(
     bits: &[u8],
     out: &mut [f32],
 ) -> TetraSent
-    ensures block { Wrote (blockCall (dueAfter first slot (isGiven has_bits) bits.now) (length out.old / 2) (senderIn sender))
-        result.count result.refusal (senderIn result.sender) out.old out.new }
+    ensures block { Wrote (block_call (due_after first slot (is_given has_bits) bits.now) (length out.old / 2) (sender_in sender))
+        result.count result.refusal (sender_in result.sender) out.old out.new }
     ensures kept { result.count ≡ 0 → result.sender ≡ sender }
 {
     let state = sender.modulator;

@@ -1,13 +1,13 @@
 // The receiver: its state goes in by value and the next one comes back, and its past is lent. The header's calls on a
 // receiver in the caller's memory are these.
 ghost use Rattle.std.specs.Prelude.{◌≡◌, List, [], ◌∷◌, replicate, Float};
-ghost use Rattle.dsp_types.specs.Samples.{zeroF};
+ghost use Rattle.dsp_types.specs.Samples.{zero_f};
 ghost use Rattle.slot_receiver.specs.Receiver.{new};
-ghost use Rattle.slot_receiver.specs.Calls.{sampleOutcome, takeOutcome, followOutcome, replyOf, takeReplyOf, inNumbers};
-ghost use Rattle.receiver.specs.Feed.{interleaved, feedOf};
-ghost use Rattle.slot_receiver.specs.View.{mode_of, modeNumber, modeFollowing};
-ghost use Rattle.receiver.specs.View.{receiverOf, Untouched};
-ghost use Rattle.modem.specs.Receive.{replyNumber, slotTaken, emptySlot, handsSlot, stopRefusal};
+ghost use Rattle.slot_receiver.specs.Calls.{sample_outcome, take_outcome, follow_outcome, reply_of, take_reply_of, in_numbers};
+ghost use Rattle.receiver.specs.Feed.{interleaved, feed_of};
+ghost use Rattle.slot_receiver.specs.View.{mode_of, mode_number, mode_following};
+ghost use Rattle.receiver.specs.View.{receiver_of, Untouched};
+ghost use Rattle.modem.specs.Receive.{reply_number, slot_taken, empty_slot, hands_slot, stop_refusal};
 
 use dsp_types::{ACCEPTED, ComplexSample, SampleCount, TdmaTime};
 use receiver::{State, Stop};
@@ -54,9 +54,9 @@ fn mode_of(number: u32) -> Mode
     }
 }
 
-#[tactic(auto, unfolding(crate::specs::Receive::replyNumber, slot_receiver::specs::Calls::replyOf))]
+#[tactic(auto, unfolding(crate::specs::Receive::reply_number, slot_receiver::specs::Calls::reply_of))]
 fn answer_number(answer: Answer) -> u32
-    ensures { result ≡ replyNumber (replyOf answer) }
+    ensures { result ≡ reply_number (reply_of answer) }
 {
     match answer {
         Answer::Accepted => ACCEPTED,
@@ -64,9 +64,9 @@ fn answer_number(answer: Answer) -> u32
     }
 }
 
-#[tactic(auto, unfolding(crate::specs::Receive::replyNumber, slot_receiver::specs::Calls::takeReplyOf))]
+#[tactic(auto, unfolding(crate::specs::Receive::reply_number, slot_receiver::specs::Calls::take_reply_of))]
 fn take_number(answer: TakeAnswer) -> u32
-    ensures { result ≡ replyNumber (takeReplyOf answer) }
+    ensures { result ≡ reply_number (take_reply_of answer) }
 {
     match answer {
         TakeAnswer::Slot(_) => ACCEPTED,
@@ -76,7 +76,7 @@ fn take_number(answer: TakeAnswer) -> u32
 
 // A refusal's slot is all zeros.
 fn empty_slot() -> RxSlot
-    ensures { result ≡ emptySlot }
+    ensures { result ≡ empty_slot }
 {
     let none = RxBurst {
         train_type: 0,
@@ -93,9 +93,9 @@ fn empty_slot() -> RxSlot
     }
 }
 
-#[tactic(auto, unfolding(crate::specs::Receive::slotTaken, slot_receiver::specs::Calls::takeReplyOf))]
+#[tactic(auto, unfolding(crate::specs::Receive::slot_taken, slot_receiver::specs::Calls::take_reply_of))]
 fn take_slot(answer: TakeAnswer) -> RxSlot
-    ensures { result ≡ slotTaken (takeReplyOf answer) }
+    ensures { result ≡ slot_taken (take_reply_of answer) }
 {
     match answer {
         TakeAnswer::Slot(slot) => slot,
@@ -104,7 +104,7 @@ fn take_slot(answer: TakeAnswer) -> RxSlot
 }
 
 fn hands_slot(stop: Stop) -> bool
-    ensures { result ≡ handsSlot stop }
+    ensures { result ≡ hands_slot stop }
 {
     match stop {
         Stop::End => false,
@@ -114,7 +114,7 @@ fn hands_slot(stop: Stop) -> bool
 }
 
 fn stop_refusal(stop: Stop) -> u32
-    ensures { result ≡ stopRefusal stop }
+    ensures { result ≡ stop_refusal stop }
 {
     match stop {
         Stop::End => ACCEPTED,
@@ -127,8 +127,8 @@ fn stop_refusal(stop: Stop) -> u32
 // Idle.
 #[unsafe(no_mangle)]
 pub extern "C" fn tetra_state_new(mode: u32) -> State
-    ensures receiver { receiverOf result (replicate 2048 zeroF) (replicate 2048 zeroF) (replicate 2048 zeroF) ≡ new (mode_of mode) }
-    ensures mode { result.slots.mode ≡ modeNumber (mode_of mode) }
+    ensures receiver { receiver_of result (replicate 2048 zero_f) (replicate 2048 zero_f) (replicate 2048 zero_f) ≡ new (mode_of mode) }
+    ensures mode { result.slots.mode ≡ mode_number (mode_of mode) }
 {
     State::new(mode_of(mode))
 }
@@ -144,8 +144,8 @@ pub extern "C" fn tetra_state_sample(
     im: f32,
     counter: i64,
 ) -> TetraAnswered
-    ensures refusal { result.refusal ≡ replyNumber (sampleOutcome (receiverOf state past_re.old past_im.old past_abs.old) (record { re = re; im = im }) counter).reply }
-    ensures receiver { receiverOf result.state past_re.new past_im.new past_abs.new ≡ (sampleOutcome (receiverOf state past_re.old past_im.old past_abs.old) (record { re = re; im = im }) counter).receiver }
+    ensures refusal { result.refusal ≡ reply_number (sample_outcome (receiver_of state past_re.old past_im.old past_abs.old) (record { re = re; im = im }) counter).reply }
+    ensures receiver { receiver_of result.state past_re.new past_im.new past_abs.new ≡ (sample_outcome (receiver_of state past_re.old past_im.old past_abs.old) (record { re = re; im = im }) counter).receiver }
     ensures refused { (result.refusal ≡ 0 → ⊥) → Untouched state result.state past_re.old past_re.new past_im.old past_im.new past_abs.old past_abs.new }
 {
     let input = ComplexSample { re, im };
@@ -169,10 +169,10 @@ pub extern "C" fn tetra_state_feed(
     samples: &[f32],
     first: i64,
 ) -> TetraFed
-    ensures taken { result.taken ≡ (feedOf (receiverOf state past_re.old past_im.old past_abs.old) (interleaved samples.now) first).taken }
-    ensures slot { result.slot ≡ handsSlot (feedOf (receiverOf state past_re.old past_im.old past_abs.old) (interleaved samples.now) first).stop }
-    ensures refusal { result.refusal ≡ stopRefusal (feedOf (receiverOf state past_re.old past_im.old past_abs.old) (interleaved samples.now) first).stop }
-    ensures receiver { receiverOf result.state past_re.new past_im.new past_abs.new ≡ (feedOf (receiverOf state past_re.old past_im.old past_abs.old) (interleaved samples.now) first).receiver }
+    ensures taken { result.taken ≡ (feed_of (receiver_of state past_re.old past_im.old past_abs.old) (interleaved samples.now) first).taken }
+    ensures slot { result.slot ≡ hands_slot (feed_of (receiver_of state past_re.old past_im.old past_abs.old) (interleaved samples.now) first).stop }
+    ensures refusal { result.refusal ≡ stop_refusal (feed_of (receiver_of state past_re.old past_im.old past_abs.old) (interleaved samples.now) first).stop }
+    ensures receiver { receiver_of result.state past_re.new past_im.new past_abs.new ≡ (feed_of (receiver_of state past_re.old past_im.old past_abs.old) (interleaved samples.now) first).receiver }
     ensures refused { result.taken ≡ 0 → Untouched state result.state past_re.old past_re.new past_im.old past_im.new past_abs.old past_abs.new }
 {
     let fed = state.feed(past_re, past_im, past_abs, samples, SampleCount(first));
@@ -195,10 +195,10 @@ pub extern "C" fn tetra_state_take(
     subslot1: &mut [u8],
     subslot2: &mut [u8],
 ) -> TetraTaken
-    ensures refusal { (re im abs : List Float) → result.refusal ≡ replyNumber (inNumbers (takeOutcome (receiverOf state re im abs) slot.old subslot1.old subslot2.old).reply) }
-    ensures slot { (re im abs : List Float) → result.slot ≡ slotTaken (inNumbers (takeOutcome (receiverOf state re im abs) slot.old subslot1.old subslot2.old).reply) }
-    ensures receiver { (re im abs : List Float) → receiverOf result.state re im abs ≡ (takeOutcome (receiverOf state re im abs) slot.old subslot1.old subslot2.old).receiver }
-    ensures lent { (re im abs : List Float) → slot.new ∷ subslot1.new ∷ subslot2.new ∷ [] ≡ (takeOutcome (receiverOf state re im abs) slot.old subslot1.old subslot2.old).lent }
+    ensures refusal { (re im abs : List Float) → result.refusal ≡ reply_number (in_numbers (take_outcome (receiver_of state re im abs) slot.old subslot1.old subslot2.old).reply) }
+    ensures slot { (re im abs : List Float) → result.slot ≡ slot_taken (in_numbers (take_outcome (receiver_of state re im abs) slot.old subslot1.old subslot2.old).reply) }
+    ensures receiver { (re im abs : List Float) → receiver_of result.state re im abs ≡ (take_outcome (receiver_of state re im abs) slot.old subslot1.old subslot2.old).receiver }
+    ensures lent { (re im abs : List Float) → slot.new ∷ subslot1.new ∷ subslot2.new ∷ [] ≡ (take_outcome (receiver_of state re im abs) slot.old subslot1.old subslot2.old).lent }
     ensures refused { (result.refusal ≡ 0 → ⊥) → result.state ≡ state }
 {
     let taken = state.take_demodulated_slot(slot, subslot1, subslot2);
@@ -214,9 +214,9 @@ pub extern "C" fn tetra_state_take(
 // Takes the slot timing of another receiver. A receiver that finds its own is refused. The past has no part in it.
 #[unsafe(no_mangle)]
 pub extern "C" fn tetra_state_follow(state: State, other: State) -> TetraAnswered
-    ensures refusal { (re im abs re₂ im₂ abs₂ : List Float) → result.refusal ≡ replyNumber (followOutcome (receiverOf state re im abs) (receiverOf other re₂ im₂ abs₂)).reply }
-    ensures receiver { (re im abs re₂ im₂ abs₂ : List Float) → receiverOf result.state re im abs ≡ (followOutcome (receiverOf state re im abs) (receiverOf other re₂ im₂ abs₂)).receiver }
-    ensures mode { result.refusal ≡ 0 → result.state.slots.mode ≡ modeFollowing (mode_of other.slots.mode) state.slots.mode }
+    ensures refusal { (re im abs re₂ im₂ abs₂ : List Float) → result.refusal ≡ reply_number (follow_outcome (receiver_of state re im abs) (receiver_of other re₂ im₂ abs₂)).reply }
+    ensures receiver { (re im abs re₂ im₂ abs₂ : List Float) → receiver_of result.state re im abs ≡ (follow_outcome (receiver_of state re im abs) (receiver_of other re₂ im₂ abs₂)).receiver }
+    ensures mode { result.refusal ≡ 0 → result.state.slots.mode ≡ mode_following (mode_of other.slots.mode) state.slots.mode }
     ensures refused { (result.refusal ≡ 0 → ⊥) → result.state ≡ state }
 {
     let followed = state.sync_to_demodulator(other);

@@ -3,12 +3,12 @@ use Rattle.std.specs.Prelude.{ℕ, List, [], ◌∷◌, take, replicate}
 use Rattle.dsp_types.specs.declared.ComplexSample.{ComplexSample}
 use Rattle.dsp_types.specs.Refusals.{accepted}
 use Rattle.dsp_types.specs.Samples.{silence, ago}
-use Rattle.fir.specs.Fir.{filterOf, line_of}
+use Rattle.fir.specs.Fir.{filter_of, line_of}
 use Rattle.mapper.specs.declared.Due.{Due}
 use Rattle.mapper.specs.declared.Due.TheVariants.{Refused, Silence, Symbol}
 use Rattle.mapper.specs.declared.DqpskMapper.{DqpskMapper}
 use Rattle.modulator.specs.declared.sender.Modulator.{Modulator}
-use Rattle.mapper.specs.Dqpsk.{phaseAfter, input_of}
+use Rattle.mapper.specs.Dqpsk.{phase_after, input_of}
 use Rattle.modulator.specs.declared.sender.Answer.{Answer}
 use Rattle.modulator.specs.declared.sender.Answer.TheVariants as answer
 
@@ -20,25 +20,25 @@ pub record SenderReply : Type 0 where
   pub samples : List ComplexSample
 
 -- ... for each case of the enum
-unfoldable pub senderReply : Answer → SenderReply
-senderReply (answer.Sample re im) = record { number = accepted; samples = record { re = re; im = im } ∷ [] }
-senderReply (answer.Refused n) = record { number = n; samples = [] }
+unfoldable pub sender_reply : Answer → SenderReply
+sender_reply (answer.Sample re im) = record { number = accepted; samples = record { re = re; im = im } ∷ [] }
+sender_reply (answer.Refused n) = record { number = n; samples = [] }
 
 -- a sample, shaped by the filter
-unfoldable pub shapedOf : List ComplexSample → ComplexSample → SenderReply
-shapedOf line input = record { number = accepted; samples = filterOf (ago silence (input ∷ line)) ∷ [] }
+unfoldable pub shaped_of : List ComplexSample → ComplexSample → SenderReply
+shaped_of line input = record { number = accepted; samples = filter_of (ago silence (input ∷ line)) ∷ [] }
 
 -- what a call tells
-unfoldable pub toldOf : List ComplexSample → ComplexSample → Due → SenderReply
-toldOf line input (Refused n) = record { number = n; samples = [] }
-toldOf line input Silence = shapedOf line input
-toldOf line input (Symbol bit0 bit1) = shapedOf line input
+unfoldable pub told_of : List ComplexSample → ComplexSample → Due → SenderReply
+told_of line input (Refused n) = record { number = n; samples = [] }
+told_of line input Silence = shaped_of line input
+told_of line input (Symbol bit0 bit1) = shaped_of line input
 
 -- the filter line after the call: a refusal leaves it as it was
-unfoldable pub nextLine : List ComplexSample → ComplexSample → Due → List ComplexSample
-nextLine line input (Refused n) = line
-nextLine line input Silence = take 32 (input ∷ line)
-nextLine line input (Symbol bit0 bit1) = take 32 (input ∷ line)
+unfoldable pub next_line : List ComplexSample → ComplexSample → Due → List ComplexSample
+next_line line input (Refused n) = line
+next_line line input Silence = take 32 (input ∷ line)
+next_line line input (Symbol bit0 bit1) = take 32 (input ∷ line)
 
 -- ---- a whole call
 
@@ -48,21 +48,21 @@ pub record Sender : Type 0 where
   pub phase : ℕ
 
 -- the sender that a state and a phase record stand for
-unfoldable pub senderOf : Modulator → DqpskMapper → Sender
-senderOf m p = record { line = line_of m.filter; phase = p.phase }
+unfoldable pub sender_of : Modulator → DqpskMapper → Sender
+sender_of m p = record { line = line_of m.filter; phase = p.phase }
 
 -- a new sender: silence so far, at phase 0
-unfoldable pub newSender : Sender
-newSender = record { line = replicate 32 silence; phase = 0 }
+unfoldable pub new_sender : Sender
+new_sender = record { line = replicate 32 silence; phase = 0 }
 
 -- what the filter is fed
-unfoldable pub filterInput : Sender → Due → ComplexSample
-filterInput s d = input_of (phaseAfter s.phase d) d
+unfoldable pub filter_input : Sender → Due → ComplexSample
+filter_input s d = input_of (phase_after s.phase d) d
 
 -- what a call answers where d is due
 unfoldable pub tells : Sender → Due → SenderReply
-tells s d = toldOf s.line (filterInput s d) d
+tells s d = told_of s.line (filter_input s d) d
 
 -- ... and the sender after it
-unfoldable pub senderAfter : Sender → Due → Sender
-senderAfter s d = record { line = nextLine s.line (filterInput s d) d; phase = phaseAfter s.phase d }
+unfoldable pub sender_after : Sender → Due → Sender
+sender_after s d = record { line = next_line s.line (filter_input s d) d; phase = phase_after s.phase d }

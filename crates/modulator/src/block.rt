@@ -1,9 +1,9 @@
 // A block of samples in one call, for gateways: what the calls one by one would send.
 ghost use Rattle.std.specs.Prelude.{◌≡◌, cond, ◌+◌, ◌*◌, ◌/◌, ◌≤◌, ◌<◌, ◌^◌, eqb, length, take};
-ghost use Rattle.dsp_types.specs.Refusals.{badCounter, needMoreData, lastCounter, counters};
-ghost use Rattle.fir.specs.Fir.{samplesOf, startWith, reOf, imOf};
-ghost use Rattle.modulator.specs.Sender.{senderOf};
-ghost use Rattle.modulator.specs.Blocks.{dueAfter, blockCall, parts_of, Wrote, placeDue, inputsOf, phasesOf, fedBlock, left_of};
+ghost use Rattle.dsp_types.specs.Refusals.{bad_counter, need_more_data, last_counter, counters};
+ghost use Rattle.fir.specs.Fir.{samples_of, start_with, re_of, im_of};
+ghost use Rattle.modulator.specs.Sender.{sender_of};
+ghost use Rattle.modulator.specs.Blocks.{due_after, block_call, parts_of, Wrote, place_due, inputs_of, phases_of, fed_block, left_of};
 
 use crate::sender::Modulator;
 use dsp_types::{ACCEPTED, BAD_COUNTER, COUNTERS, NEED_MORE_DATA, SampleCount, TdmaTime, least};
@@ -28,7 +28,7 @@ struct Piece {
 
 // How many samples there are before the counter or the slot ends.
 fn left(counter: u64, start: u64) -> usize
-    requires { (counter ≤ lastCounter) × (start < 2 ^ 42) }
+    requires { (counter ≤ last_counter) × (start < 2 ^ 42) }
     ensures { result ≡ left_of counter start }
 {
     let end = start + 1020;
@@ -42,7 +42,7 @@ fn left(counter: u64, start: u64) -> usize
 // The refusal of the sample behind them.
 fn end_refusal(counter: u64, left: usize) -> u32
     requires { counter + left ≤ counters }
-    ensures { result ≡ cond (eqb (counter + left) counters) badCounter needMoreData }
+    ensures { result ≡ cond (eqb (counter + left) counters) bad_counter need_more_data }
 {
     if counter + left as u64 == COUNTERS {
         BAD_COUNTER
@@ -63,10 +63,10 @@ fn fill(
     bits: &[u8],
 ) -> u8
     requires { (count ≤ length re.old) × (count ≤ length im.old) × (counter + count ≤ counters) }
-    ensures { let due = placeDue counter start has_bits bits.now in
-        (result ≡ phasesOf due count 0 phase)
-        × ((take count re.new ≡ reOf (inputsOf due count 0 phase))
-        × (take count im.new ≡ imOf (inputsOf due count 0 phase))) }
+    ensures { let due = place_due counter start has_bits bits.now in
+        (result ≡ phases_of due count 0 phase)
+        × ((take count re.new ≡ re_of (inputs_of due count 0 phase))
+        × (take count im.new ≡ im_of (inputs_of due count 0 phase))) }
 {
     let mut next = phase;
     for n in 0..count {
@@ -82,7 +82,7 @@ fn fill(
 // Writes samples to the start of a buffer, re and im in turn.
 fn interleave(re: &[f32], im: &[f32], out: &mut [f32])
     requires { (length re.now ≡ length im.now) × (2 * length re.now ≤ length out.old) }
-    ensures { out.new ≡ startWith (parts_of (samplesOf re.now im.now)) out.old }
+    ensures { out.new ≡ start_with (parts_of (samples_of re.now im.now)) out.old }
 {
     for n in 0..re.len() {
         out[2 * n] = re[n];
@@ -103,8 +103,8 @@ impl Modulator {
         out: &mut [f32],
     ) -> Piece
         requires { (count ≤ 256) × (2 * count ≤ length out.old) × (counter + count ≤ counters) }
-        ensures { Wrote (fedBlock (placeDue counter start has_bits bits.now) count 0 (senderOf self mapper))
-            count 0 (senderOf result.modulator result.mapper) out.old out.new }
+        ensures { Wrote (fed_block (place_due counter start has_bits bits.now) count 0 (sender_of self mapper))
+            count 0 (sender_of result.modulator result.mapper) out.old out.new }
     {
         let mut re = [0.0f32; 256];
         let mut im = [0.0f32; 256];
@@ -142,8 +142,8 @@ impl Modulator {
         out: &mut [f32],
     ) -> Sent
         requires { (2 * count ≤ length out.old) × (counter + count ≤ counters) }
-        ensures { Wrote (fedBlock (placeDue counter start has_bits bits.now) count refusal (senderOf self mapper))
-            result.count result.refusal (senderOf result.modulator result.mapper) out.old out.new }
+        ensures { Wrote (fed_block (place_due counter start has_bits bits.now) count refusal (sender_of self mapper))
+            result.count result.refusal (sender_of result.modulator result.mapper) out.old out.new }
     {
         let mut modulator = self;
         let mut phase = mapper;
@@ -175,9 +175,9 @@ impl Modulator {
         bits: &[u8],
         out: &mut [f32],
     ) -> Sent
-        ensures block { let due = dueAfter sample_counter.0 slot.0 has_bits bits.now in
-            Wrote (blockCall due (length out.old / 2) (senderOf self mapper))
-            result.count result.refusal (senderOf result.modulator result.mapper) out.old out.new }
+        ensures block { let due = due_after sample_counter.0 slot.0 has_bits bits.now in
+            Wrote (block_call due (length out.old / 2) (sender_of self mapper))
+            result.count result.refusal (sender_of result.modulator result.mapper) out.old out.new }
         ensures kept { result.count ≡ 0 → (result.modulator ≡ self) × (result.mapper ≡ mapper) }
     {
         let room = out.len() / 2;

@@ -2,8 +2,8 @@
 ghost use Rattle.std.specs.Prelude.{◌≡◌, ◌∷◌, ℕ, take, replicate};
 ghost use Rattle.dsp_types.specs.Samples.{silence};
 ghost use Rattle.fir.specs.Fir.{line_of};
-ghost use Rattle.mapper.specs.Due.{dueOf};
-ghost use Rattle.modulator.specs.Sender.{senderReply, shapedOf, toldOf, nextLine, senderOf, tells, senderAfter};
+ghost use Rattle.mapper.specs.Due.{due_of};
+ghost use Rattle.modulator.specs.Sender.{sender_reply, shaped_of, told_of, next_line, sender_of, tells, sender_after};
 
 use dsp_types::{ComplexSample, SampleCount, TdmaTime};
 use fir::FirComplexSym;
@@ -60,7 +60,7 @@ impl Modulator {
 
     // Sends one input through the filter.
     fn shape(self, input: ComplexSample) -> Sampled
-        ensures { (senderReply result.answer ≡ shapedOf (line_of self.filter) input)
+        ensures { (sender_reply result.answer ≡ shaped_of (line_of self.filter) input)
             × (line_of result.modulator.filter ≡ take 32 (input ∷ line_of self.filter)) }
     {
         let line = self.filter;
@@ -78,8 +78,8 @@ impl Modulator {
 
     // Transmits what is due: its input goes through the filter. A refusal leaves the filter as it is.
     fn transmit(self, due: Due, input: ComplexSample) -> Sampled
-        ensures { (senderReply result.answer ≡ toldOf (line_of self.filter) input due)
-            × (line_of result.modulator.filter ≡ nextLine (line_of self.filter) input due)
+        ensures { (sender_reply result.answer ≡ told_of (line_of self.filter) input due)
+            × (line_of result.modulator.filter ≡ next_line (line_of self.filter) input due)
             × ((n : ℕ) → due ≡ Due.Refused n → result.modulator ≡ self) }
     {
         match due {
@@ -101,9 +101,9 @@ impl Modulator {
         has_bits: bool,
         bits: &[u8],
     ) -> Sampled
-        ensures { let d = dueOf sample_counter.0 slot.0 has_bits bits.now in
-            (senderReply result.answer ≡ tells (senderOf self mapper.old) d)
-            × (senderOf result.modulator mapper.new ≡ senderAfter (senderOf self mapper.old) d)
+        ensures { let d = due_of sample_counter.0 slot.0 has_bits bits.now in
+            (sender_reply result.answer ≡ tells (sender_of self mapper.old) d)
+            × (sender_of result.modulator mapper.new ≡ sender_after (sender_of self mapper.old) d)
             × ((n : ℕ) → result.answer ≡ Answer.Refused n → (result.modulator ≡ self) × (mapper.new ≡ mapper.old)) }
     {
         let d = due_now(sample_counter, slot, has_bits, bits);
@@ -120,9 +120,9 @@ impl Modulator {
         has_bits: bool,
         bits: &[u8],
     ) -> Stepped
-        ensures { let d = dueOf sample_counter.0 slot.0 has_bits bits.now in
-            (senderReply result.answer ≡ tells (senderOf self mapper) d)
-            × (senderOf result.modulator result.mapper ≡ senderAfter (senderOf self mapper) d)
+        ensures { let d = due_of sample_counter.0 slot.0 has_bits bits.now in
+            (sender_reply result.answer ≡ tells (sender_of self mapper) d)
+            × (sender_of result.modulator result.mapper ≡ sender_after (sender_of self mapper) d)
             × ((n : ℕ) → result.answer ≡ Answer.Refused n → (result.modulator ≡ self) × (result.mapper ≡ mapper)) }
     {
         let sampled = self.sample(&mut mapper, sample_counter, slot, has_bits, bits);

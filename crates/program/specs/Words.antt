@@ -5,26 +5,26 @@ use Rattle.program.specs.declared.words.Kind.{Kind}
 use Rattle.program.specs.declared.words.Kind.TheVariants.{Ends, Help, Version, Option, Name}
 
 -- two words are the same
-unfoldable pub sameWord : List ℕ → List ℕ → Bool
-sameWord [] [] = true
-sameWord [] (c ∷ other) = false
-sameWord (b ∷ word) [] = false
-sameWord (b ∷ word) (c ∷ other) = b == c && sameWord word other
+unfoldable pub same_word : List ℕ → List ℕ → Bool
+same_word [] [] = true
+same_word [] (c ∷ other) = false
+same_word (b ∷ word) [] = false
+same_word (b ∷ word) (c ∷ other) = b == c && same_word word other
 
 -- it starts with a minus and does not end there
-unfoldable pub isOption : List ℕ → Bool
-isOption [] = false
-isOption (b ∷ []) = false
-isOption (b ∷ c ∷ rest) = b == 45
+unfoldable pub is_option : List ℕ → Bool
+is_option [] = false
+is_option (b ∷ []) = false
+is_option (b ∷ c ∷ rest) = b == 45
 
 -- where options may stand
-unfoldable pub kindOfWord : List ℕ → Kind
-kindOfWord word =
-    cond (sameWord word (ascii "--")) Ends
-    (cond (sameWord word (ascii "--help")) Help
-    (cond (sameWord word (ascii "--version")) Version
-    (cond (isOption word) Option Name)))
+unfoldable pub kind_of_word : List ℕ → Kind
+kind_of_word word =
+    cond (same_word word (ascii "--")) Ends
+    (cond (same_word word (ascii "--help")) Help
+    (cond (same_word word (ascii "--version")) Version
+    (cond (is_option word) Option Name)))
 
 -- behind `--` each word is a name
-unfoldable pub kindOfWordAt : Bool → List ℕ → Kind
-kindOfWordAt ended word = cond ended Name (kindOfWord word)
+unfoldable pub kind_of_word_at : Bool → List ℕ → Kind
+kind_of_word_at ended word = cond ended Name (kind_of_word word)

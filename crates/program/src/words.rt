@@ -1,7 +1,7 @@
 // The words of the command line, read one behind the other.
 ghost use Rattle.std.specs.Prelude.{◌≡◌, ◌+◌, ◌%◌, ◌^◌, false, ◌||◌, take};
 ghost use Rattle.io.specs.Counts.{IsPrefixLen};
-ghost use Rattle.program.specs.Words.{sameWord, isOption, kindOfWord, kindOfWordAt};
+ghost use Rattle.program.specs.Words.{same_word, is_option, kind_of_word, kind_of_word_at};
 ghost use Rattle.text.specs.Text.{ascii};
 
 use std::env::{Env, FillError};
@@ -34,7 +34,7 @@ pub struct Word {
 }
 
 fn is_option(word: &[u8]) -> bool
-    ensures { result ≡ isOption word.now }
+    ensures { result ≡ is_option word.now }
 {
     if word.len() < 2 {
         return false;
@@ -64,14 +64,14 @@ fn arg<E: Env>(rt: &E, at: usize, buf: &mut [u8]) -> usize
 
 // Whether a word is that one, as where a program looks for an option of its own.
 pub fn is_word(word: &[u8], that: &[u8]) -> bool
-    ensures { result ≡ sameWord word.now that.now }
+    ensures { result ≡ same_word word.now that.now }
 {
     word == that
 }
 
 // What a word is where options may stand.
 fn kind_of(word: &[u8]) -> Kind
-    ensures { result ≡ kindOfWord word.now }
+    ensures { result ≡ kind_of_word word.now }
 {
     if is_word(word, b"--") {
         return Kind::Ends;
@@ -91,7 +91,7 @@ fn kind_of(word: &[u8]) -> Kind
 
 // The same behind `--`, where each word is a name.
 fn kind_at(is_ended: bool, word: &[u8]) -> Kind
-    ensures { result ≡ kindOfWordAt is_ended word.now }
+    ensures { result ≡ kind_of_word_at is_ended word.now }
 {
     if is_ended { Kind::Name } else { kind_of(word) }
 }
@@ -110,9 +110,9 @@ impl Words {
     // The next word. One that is missing is read as an empty name.
     pub fn next<E: Env>(self, rt: &E, buf: &mut [u8]) -> Word
         ensures prefix_len { IsPrefixLen result.len buf.new }
-        ensures kind_value { result.kind ≡ kindOfWordAt self.is_ended (take result.len buf.new) }
+        ensures kind_value { result.kind ≡ kind_of_word_at self.is_ended (take result.len buf.new) }
         ensures at_value { result.words.at ≡ (self.at + 1) % 2 ^ 64 }
-        ensures is_ended_value { result.words.is_ended ≡ (self.is_ended || sameWord (take result.len buf.new) (ascii "--")) }
+        ensures is_ended_value { result.words.is_ended ≡ (self.is_ended || same_word (take result.len buf.new) (ascii "--")) }
     {
         let len = arg(rt, self.at, buf);
         let kind = kind_at(self.is_ended, &buf[..len]);

@@ -10,11 +10,11 @@ use lib.Seq.{append_snoc}
 use lib.Ieee.{Float, nan}
 use Rattle.dsp_types.specs.declared.ComplexSample.{ComplexSample}
 use Rattle.dsp_types.specs.Refusals.{beyond}
-use Rattle.fir.proofs.Blocks.{length-samples}
-use Rattle.fir.specs.Fir.{samplesOf}
+use Rattle.fir.proofs.Blocks.{length_samples}
+use Rattle.fir.specs.Fir.{samples_of}
 use Rattle.receiver.specs.Feed.{interleaved}
-use Rattle.receiver.specs.Keep.{anyBeyond}
-use Rattle.receiver.proofs.Feeding.{part, next-sample}
+use Rattle.receiver.specs.Keep.{any_beyond}
+use Rattle.receiver.proofs.Feeding.{part, next_sample}
 
 -- ---- one more element
 
@@ -24,32 +24,32 @@ written zero (a ∷ l) x h = refl
 written (suc n) [] x h = absurd (omega arith)
 written (suc n) (a ∷ l) x h = ap (λ (t : List Float). a ∷ t) (written n l x (omega arith))
 
-samples-snoc : (n : ℕ) (re im : List Float) (x y : Float) → n < length re → n < length im
-    → samplesOf (take (suc n) (set re n x)) (take (suc n) (set im n y)) ≡ samplesOf (take n re) (take n im) ++ (record { re = x; im = y } ∷ [])
-unfolding samplesOf
-samples-snoc n [] im x y h k = absurd (omega arith)
-samples-snoc n (a ∷ re) [] x y h k = absurd (omega arith)
-samples-snoc zero (a ∷ re) (b ∷ im) x y h k = refl
-samples-snoc (suc n) (a ∷ re) (b ∷ im) x y h k =
-    ap (λ (t : List ComplexSample). record { re = a; im = b } ∷ t) (samples-snoc n re im x y (omega arith) (omega arith))
+samples_snoc : (n : ℕ) (re im : List Float) (x y : Float) → n < length re → n < length im
+    → samples_of (take (suc n) (set re n x)) (take (suc n) (set im n y)) ≡ samples_of (take n re) (take n im) ++ (record { re = x; im = y } ∷ [])
+unfolding samples_of
+samples_snoc n [] im x y h k = absurd (omega arith)
+samples_snoc n (a ∷ re) [] x y h k = absurd (omega arith)
+samples_snoc zero (a ∷ re) (b ∷ im) x y h k = refl
+samples_snoc (suc n) (a ∷ re) (b ∷ im) x y h k =
+    ap (λ (t : List ComplexSample). record { re = a; im = b } ∷ t) (samples_snoc n re im x y (omega arith) (omega arith))
 
-fine-snoc : (xs : List ComplexSample) (x : ComplexSample) → anyBeyond xs ≡ false → (beyond x.re || beyond x.im) ≡ false → anyBeyond (xs ++ (x ∷ [])) ≡ false
-unfolding anyBeyond
-fine-snoc [] x e f = rw f
-fine-snoc (y ∷ xs) x e f = go (beyond y.re || beyond y.im) e (λ d. fine-snoc xs x d f)
+fine_snoc : (xs : List ComplexSample) (x : ComplexSample) → any_beyond xs ≡ false → (beyond x.re || beyond x.im) ≡ false → any_beyond (xs ++ (x ∷ [])) ≡ false
+unfolding any_beyond
+fine_snoc [] x e f = rw f
+fine_snoc (y ∷ xs) x e f = go (beyond y.re || beyond y.im) e (λ d. fine_snoc xs x d f)
   where
-    go : (b : Bool) → (b || anyBeyond xs) ≡ false → (anyBeyond xs ≡ false → anyBeyond (xs ++ (x ∷ [])) ≡ false) → (b || anyBeyond (xs ++ (x ∷ []))) ≡ false
+    go : (b : Bool) → (b || any_beyond xs) ≡ false → (any_beyond xs ≡ false → any_beyond (xs ++ (x ∷ [])) ≡ false) → (b || any_beyond (xs ++ (x ∷ []))) ≡ false
     go true d g = absurd (let z : ◌≡◌ {A = ℕ} 0 1 = cc in omega arith)
     go false d g = g d
 
 -- a turn of the loop that writes parts
 pub record Split (parts re im : List Float) (at n : ℕ) : Type 0 where
-  pub fine : anyBeyond (samplesOf (take n re) (take n im)) ≡ false
-  pub same : interleaved (drop (2 * at) parts) ≡ samplesOf (take n re) (take n im) ++ interleaved (drop (2 * (at + n)) parts)
+  pub fine : any_beyond (samples_of (take n re) (take n im)) ≡ false
+  pub same : interleaved (drop (2 * at) parts) ≡ samples_of (take n re) (take n im) ++ interleaved (drop (2 * (at + n)) parts)
 
-pub split-none : (parts re im : List Float) (at : ℕ) → Split parts re im at 0
-unfolding samplesOf anyBeyond
-split-none parts re im at = let z : at + 0 ≡ at = omega arith in record { fine = refl; same = rw z }
+pub split_none : (parts re im : List Float) (at : ℕ) → Split parts re im at 0
+unfolding samples_of any_beyond
+split_none parts re im at = let z : at + 0 ≡ at = omega arith in record { fine = refl; same = rw z }
 
 pub split_one : (parts re im : List Float) (at n : ℕ) → n < length re → n < length im → at + n < length parts / 2
     → (beyond (get_or parts (2 * (at + n)) nan) || beyond (get_or parts (2 * (at + n) + 1) nan)) ≡ false → Split parts re im at n
@@ -57,19 +57,19 @@ pub split_one : (parts re im : List Float) (at n : ℕ) → n < length re → n 
 split_one parts re im at n h k l f s =
     let x = get_or parts (2 * (at + n)) nan in
     let y = get_or parts (2 * (at + n) + 1) nan in
-    let xs = samplesOf (take n re) (take n im) in
+    let xs = samples_of (take n re) (take n im) in
     let z : at + suc n ≡ at + n + 1 = omega arith in
-    let e = samples-snoc n re im x y h k in
+    let e = samples_snoc n re im x y h k in
     record {
-      fine = rw (add-one n, e) (fine-snoc xs (part parts (at + n)) s.fine f);
+      fine = rw (add-one n, e) (fine_snoc xs (part parts (at + n)) s.fine f);
       same =
           s.same
-          ∙ ap (λ (t : List ComplexSample). xs ++ t) (next-sample parts (at + n) l)
+          ∙ ap (λ (t : List ComplexSample). xs ++ t) (next_sample parts (at + n) l)
           ∙ sym (append_snoc xs (part parts (at + n)) (interleaved (drop (2 * (at + n + 1)) parts)))
           ∙ rw (add-one n, z, e);
     }
 
 -- ---- their count
 
-pub samples-count : (n : ℕ) (re im : List Float) → length re ≡ n → length im ≡ n → length (samplesOf re im) ≡ n
-samples-count n re im u v = omega (arith, length-samples re im)
+pub samples_count : (n : ℕ) (re im : List Float) → length re ≡ n → length im ≡ n → length (samples_of re im) ≡ n
+samples_count n re im u v = omega (arith, length_samples re im)

@@ -11,13 +11,13 @@ use borrow.Author.Tests.{ltb-false}
 use Rattle.dsp_types.specs.Ints.{up, dn}
 use Rattle.dsp_types.proofs.IntLaws.{less, lt_z_no}
 use Rattle.dsp_types.specs.declared.ComplexSample.{ComplexSample}
-use Rattle.dsp_types.specs.Refusals.{beyond, outOfCount, counters, lastCounter}
+use Rattle.dsp_types.specs.Refusals.{beyond, out_of_count, counters, last_counter}
 use Rattle.dsp_types.specs.Samples.{silence}
 use Rattle.dsp_types.specs.Times.{fitted}
-use Rattle.slot_receiver.specs.Receiver.{Receiver, validCount, processSample, missing, feedZeros}
-use Rattle.slot_receiver.specs.Calls.{sampleRefusal}
+use Rattle.slot_receiver.specs.Receiver.{Receiver, valid_count, process_sample, missing, feed_zeros}
+use Rattle.slot_receiver.specs.Calls.{sample_refusal}
 use Rattle.slot_receiver.specs.Bounds.{Counter}
-use Rattle.slot_receiver.proofs.Signed.{plus-is, wider, within-pos, counter-37}
+use Rattle.slot_receiver.proofs.Signed.{plus_is, wider, within_pos, counter_37}
 
 few : (z : ℤ) → dn z ≤ up z → mag z < 1020 → mag z ≡ missing z
 unfolding missing
@@ -29,41 +29,41 @@ unfolding missing
 many (pos n) h k = sym (min-eq_right (omega arith))
 many (negsuc n) h k = absurd (omega arith)
 
-pub missing-few : (c n : ℤ) → up n + dn c ≤ up c + dn n → mag (c -ℤ n) < 1020 → mag (c -ℤ n) ≡ missing (c -ℤ n)
-missing-few c n h k = few (c -ℤ n) (omega (arith, less c n)) k
+pub missing_few : (c n : ℤ) → up n + dn c ≤ up c + dn n → mag (c -ℤ n) < 1020 → mag (c -ℤ n) ≡ missing (c -ℤ n)
+missing_few c n h k = few (c -ℤ n) (omega (arith, less c n)) k
 
-pub missing-many : (c n : ℤ) → up n + dn c ≤ up c + dn n → 1020 ≤ mag (c -ℤ n) → 1020 ≡ missing (c -ℤ n)
-missing-many c n h k = many (c -ℤ n) (omega (arith, less c n)) k
+pub missing_many : (c n : ℤ) → up n + dn c ≤ up c + dn n → 1020 ≤ mag (c -ℤ n) → 1020 ≡ missing (c -ℤ n)
+missing_many c n h k = many (c -ℤ n) (omega (arith, less c n)) k
 
 -- ---- zeros for missing samples
 
-pub no-zeros : (left : ℕ) (r : Receiver) (c : ℤ) → left ≤ 0 → r ≡ feedZeros left r c
-unfolding feedZeros
-no-zeros zero r c h = refl
-no-zeros (suc left) r c h = absurd (omega arith)
+pub no_zeros : (left : ℕ) (r : Receiver) (c : ℤ) → left ≤ 0 → r ≡ feed_zeros left r c
+unfolding feed_zeros
+no_zeros zero r c h = refl
+no_zeros (suc left) r c h = absurd (omega arith)
 
-pub one-zero : (left : ℕ) (r : Receiver) (c : ℤ) → 0 < left → feedZeros left r c ≡ feedZeros (left - 1) (processSample r silence (c -ℤ pos left)) c
-unfolding feedZeros
-one-zero zero r c h = absurd (omega arith)
-one-zero (suc left) r c h = rw (suc-less left)
+pub one_zero : (left : ℕ) (r : Receiver) (c : ℤ) → 0 < left → feed_zeros left r c ≡ feed_zeros (left - 1) (process_sample r silence (c -ℤ pos left)) c
+unfolding feed_zeros
+one_zero zero r c h = absurd (omega arith)
+one_zero (suc left) r c h = rw (suc_less left)
   where
-    suc-less : (n : ℕ) → suc n - 1 ≡ n
-    suc-less n = omega arith
+    suc_less : (n : ℕ) → suc n - 1 ≡ n
+    suc_less n = omega arith
 
-pub counter-before : (c : ℤ) (left : ℕ) → left ≤ up c → Counter c → Counter (c -ℤ pos left)
-counter-before c left h n = at (c -ℤ pos left) (less c (pos left))
+pub counter_before : (c : ℤ) (left : ℕ) → left ≤ up c → Counter c → Counter (c -ℤ pos left)
+counter_before c left h n = at (c -ℤ pos left) (less c (pos left))
   where
     at : (z : ℤ) → up z + dn c + left ≡ dn z + up c + 0 → Counter z
     at (pos k) e = record { high = omega (arith, e, n); low = omega arith }
     at (negsuc k) e = absurd (omega (arith, e, n, h))
 
 -- the counter after one in its range is what it is in whole numbers
-pub next-counter : (c : ℤ) → Counter c → fitted (c +ℤ pos 1) ≡ c +ℤ pos 1
-next-counter c h = plus-is (wider (2 ^ 61) (lit≤ tt) (counter-37 h)) (within-pos {n = 1} (2 ^ 61) (lit≤ tt))
+pub next_counter_lem : (c : ℤ) → Counter c → fitted (c +ℤ pos 1) ≡ c +ℤ pos 1
+next_counter_lem c h = plus_is (wider (2 ^ 61) (lit≤ tt) (counter_37 h)) (within_pos {n = 1} (2 ^ 61) (lit≤ tt))
 
 -- a counter in its range counts as it is
-pub counted : (c : ℤ) → Counter c → validCount c ≡ c
-unfolding validCount
+pub counted : (c : ℤ) → Counter c → valid_count c ≡ c
+unfolding valid_count
 counted c h =
     let a : lt_z c (pos 0) ≡ false = lt_z_no c (pos 0) (omega (arith, h.low)) in
     let b : lt_z (pos counters) c ≡ false = lt_z_no (pos counters) c (omega (arith, h.low, h.high)) in
@@ -74,20 +74,20 @@ pub record Heard (next c : ℤ) : Type 0 where
   pub counter : Counter c
   pub later : lt_z c next ≡ false
 
-pub not-refused : (next : ℤ) (x : ComplexSample) (c : ℤ) → sampleRefusal next x c ≡ 0 → Heard next c
-unfolding sampleRefusal outOfCount
-not-refused next x c e = go c (beyond x.re || beyond x.im) (outOfCount c) refl (lt_z c next) refl e
+pub not_refused : (next : ℤ) (x : ComplexSample) (c : ℤ) → sample_refusal next x c ≡ 0 → Heard next c
+unfolding sample_refusal out_of_count
+not_refused next x c e = go c (beyond x.re || beyond x.im) (out_of_count c) refl (lt_z c next) refl e
   where
-    go : (y : ℤ) (a b : Bool) → outOfCount y ≡ b → (d : Bool) → lt_z y next ≡ d → ◌≡◌ {A = ℕ} (cond a 1 (cond b 2 (cond d 10 0))) 0 → Heard next y
+    go : (y : ℤ) (a b : Bool) → out_of_count y ≡ b → (d : Bool) → lt_z y next ≡ d → ◌≡◌ {A = ℕ} (cond a 1 (cond b 2 (cond d 10 0))) 0 → Heard next y
     go y true b f d g h = absurd (omega (arith, h))
     go y false true f d g h = absurd (omega (arith, h))
     go y false false f true g h = absurd (omega (arith, h))
-    go (pos n) false false f false g h = record { counter = record { high = omega (arith, ltb-false lastCounter n f); low = omega arith }; later = g }
+    go (pos n) false false f false g h = record { counter = record { high = omega (arith, ltb-false last_counter n f); low = omega arith }; later = g }
     go (negsuc n) false false f false g h = absurd (let z : ◌≡◌ {A = ℕ} 0 1 = cc in omega arith)
 
-pub missing-below : (c n : ℤ) → dn n ≤ 0 → dn c ≤ 0 → missing (c -ℤ n) ≤ up c
+pub missing_below : (c n : ℤ) → dn n ≤ 0 → dn c ≤ 0 → missing (c -ℤ n) ≤ up c
 unfolding missing
-missing-below c n h k = go (c -ℤ n) (less c n)
+missing_below c n h k = go (c -ℤ n) (less c n)
   where
     go : (z : ℤ) → up z + dn c + up n ≡ dn z + up c + dn n → missing z ≤ up c
     go (pos m) e = omega (arith, min-le_left m 1020, e, h, k)

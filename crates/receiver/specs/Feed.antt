@@ -5,8 +5,8 @@ use Rattle.receiver.specs.declared.feed.Stop.{Stop}
 use Rattle.receiver.specs.declared.feed.Stop.TheVariants.{End, Slot, Refused}
 use Rattle.rx_slot.specs.Slots.{HandedSlot}
 use Rattle.slot_receiver.specs.Receiver.{Receiver}
-use Rattle.slot_receiver.specs.Windows.{handsOver}
-use Rattle.slot_receiver.specs.Calls.{Reply, refused, done, took, sampleOutcome}
+use Rattle.slot_receiver.specs.Windows.{hands_over}
+use Rattle.slot_receiver.specs.Calls.{Reply, refused, done, took, sample_outcome}
 
 -- the samples of a row of parts re, im, re, im, ..; a left-over part is none
 unfoldable pub interleaved : List Float → List ComplexSample
@@ -21,19 +21,19 @@ pub record Block : Type 0 where
   pub receiver : Receiver
 
 -- an accepted sample, by whether it hands a slot over, with the receiver after it and what the others come to
-unfoldable pub fedOne : Bool → Receiver → Block → Block
-fedOne true after others = record { taken = 1; stop = Slot; receiver = after }
-fedOne false after others = record { taken = suc others.taken; stop = others.stop; receiver = others.receiver }
+unfoldable pub fed_one : Bool → Receiver → Block → Block
+fed_one true after others = record { taken = 1; stop = Slot; receiver = after }
+fed_one false after others = record { taken = suc others.taken; stop = others.stop; receiver = others.receiver }
 
 -- a sample, by its answer: a refused one is not taken
-unfoldable pub fedBy : Reply HandedSlot → Receiver → Block → Block
-fedBy (refused n) r block = record { taken = 0; stop = Refused n; receiver = r }
-fedBy done r block = block
-fedBy (took h) r block = block
+unfoldable pub fed_by : Reply HandedSlot → Receiver → Block → Block
+fed_by (refused n) r block = record { taken = 0; stop = Refused n; receiver = r }
+fed_by done r block = block
+fed_by (took h) r block = block
 
 -- samples with the counters c, c + 1, ..: it stops before a refused one, and after one that hands a slot over
-unfoldable pub feedOf : Receiver → List ComplexSample → ℤ → Block
-feedOf r [] c = record { taken = 0; stop = End; receiver = r }
-feedOf r (x ∷ xs) c =
-    let o = sampleOutcome r x c in
-    fedBy o.reply r (fedOne (handsOver o.windows) o.receiver (feedOf o.receiver xs (c +ℤ pos 1)))
+unfoldable pub feed_of : Receiver → List ComplexSample → ℤ → Block
+feed_of r [] c = record { taken = 0; stop = End; receiver = r }
+feed_of r (x ∷ xs) c =
+    let o = sample_outcome r x c in
+    fed_by o.reply r (fed_one (hands_over o.windows) o.receiver (feed_of o.receiver xs (c +ℤ pos 1)))

@@ -2,9 +2,9 @@
 use Rattle.std.specs.Prelude.{◌≡◌, Bool, ◌||◌, ℕ, ◌≤◌, ◌<◌, ℤ}
 use Rattle.dsp_types.specs.declared.ComplexSample.{ComplexSample}
 use Rattle.dsp_types.specs.Ints.{up}
-use Rattle.slot_receiver.specs.Receiver.{Receiver, validCount, feedZeros, accept}
-use Rattle.slot_receiver.specs.Windows.{handsOver, zerosWindows, acceptWindows}
-use Rattle.slot_receiver.specs.Calls.{sampleRefusal}
+use Rattle.slot_receiver.specs.Receiver.{Receiver, valid_count, feed_zeros, accept}
+use Rattle.slot_receiver.specs.Windows.{hands_over, zeros_windows, accept_windows}
+use Rattle.slot_receiver.specs.Calls.{sample_refusal}
 use Rattle.slot_receiver.specs.Bounds.{Counter}
 
 -- k zeros stand before the counter c
@@ -15,11 +15,11 @@ pub record Catching (k : ℕ) (c : ℤ) : Type 0 where
 -- after some of k zeros n are left: to feed those comes to the same as to feed all k. One that hands a slot over is the last of them
 pub record Caught (k : ℕ) (r : Receiver) (c : ℤ) (n : ℕ) (handed : Bool) (after : Receiver) : Type 0 where
   pub less : 0 < k → n < k
-  pub receiver : feedZeros k r c ≡ feedZeros n after c
-  pub windows : handsOver (zerosWindows k r c) ≡ (handed || handsOver (zerosWindows n after c))
+  pub receiver : feed_zeros k r c ≡ feed_zeros n after c
+  pub windows : hands_over (zeros_windows k r c) ≡ (handed || hands_over (zeros_windows n after c))
 
 -- a sample x with the counter c gets the refusal n, or, where that is 0, is heard
 pub record Judges (r : Receiver) (x : ComplexSample) (c : ℤ) (n : ℕ) (handed : Bool) (after : Receiver) : Type 0 where
-  pub refusal : n ≡ sampleRefusal (validCount r.next) x c
+  pub refusal : n ≡ sample_refusal (valid_count r.next) x c
   pub receiver : n ≡ 0 → after ≡ accept r x c
-  pub windows : n ≡ 0 → handed ≡ handsOver (acceptWindows r x c)
+  pub windows : n ≡ 0 → handed ≡ hands_over (accept_windows r x c)

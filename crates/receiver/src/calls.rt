@@ -1,8 +1,8 @@
 // The slot handed over last is taken, and a receiver follows another.
 ghost use Rattle.std.specs.Prelude.{◌≡◌, List, [], ◌∷◌, ℕ, Float};
-ghost use Rattle.slot_receiver.specs.Calls.{takeOutcome, followOutcome, replyOf, takeReplyOf, inNumbers};
-ghost use Rattle.slot_receiver.specs.View.{mode_of, modeFollowing};
-ghost use Rattle.receiver.specs.View.{receiverOf};
+ghost use Rattle.slot_receiver.specs.Calls.{take_outcome, follow_outcome, reply_of, take_reply_of, in_numbers};
+ghost use Rattle.slot_receiver.specs.View.{mode_of, mode_following};
+ghost use Rattle.receiver.specs.View.{receiver_of};
 
 use crate::{State, StateAnswered};
 use slot_calls::{sync_to_demodulator, take_demodulated_slot};
@@ -22,9 +22,9 @@ impl State {
         subslot1: &mut [u8],
         subslot2: &mut [u8],
     ) -> StateTaken
-        ensures answer { (re im abs : List Float) → takeReplyOf result.answer ≡ inNumbers (takeOutcome (receiverOf self re im abs) slot.old subslot1.old subslot2.old).reply }
-        ensures receiver { (re im abs : List Float) → receiverOf result.state re im abs ≡ (takeOutcome (receiverOf self re im abs) slot.old subslot1.old subslot2.old).receiver }
-        ensures lent { (re im abs : List Float) → slot.new ∷ subslot1.new ∷ subslot2.new ∷ [] ≡ (takeOutcome (receiverOf self re im abs) slot.old subslot1.old subslot2.old).lent }
+        ensures answer { (re im abs : List Float) → take_reply_of result.answer ≡ in_numbers (take_outcome (receiver_of self re im abs) slot.old subslot1.old subslot2.old).reply }
+        ensures receiver { (re im abs : List Float) → receiver_of result.state re im abs ≡ (take_outcome (receiver_of self re im abs) slot.old subslot1.old subslot2.old).receiver }
+        ensures lent { (re im abs : List Float) → slot.new ∷ subslot1.new ∷ subslot2.new ∷ [] ≡ (take_outcome (receiver_of self re im abs) slot.old subslot1.old subslot2.old).lent }
         ensures refused { (n : ℕ) → result.answer ≡ TakeAnswer.Refused n → result.state ≡ self }
     {
         let taken = take_demodulated_slot(self.slots, slot, subslot1, subslot2);
@@ -37,9 +37,9 @@ impl State {
 
     // Takes the slot timing of another receiver. A receiver that finds its own is refused.
     pub fn sync_to_demodulator(self, demod: State) -> StateAnswered
-        ensures answer { (re im abs re₂ im₂ abs₂ : List Float) → replyOf result.answer ≡ (followOutcome (receiverOf self re im abs) (receiverOf demod re₂ im₂ abs₂)).reply }
-        ensures receiver { (re im abs re₂ im₂ abs₂ : List Float) → receiverOf result.state re im abs ≡ (followOutcome (receiverOf self re im abs) (receiverOf demod re₂ im₂ abs₂)).receiver }
-        ensures mode { result.answer ≡ Answer.Accepted → result.state.slots.mode ≡ modeFollowing (mode_of demod.slots.mode) self.slots.mode }
+        ensures answer { (re im abs re₂ im₂ abs₂ : List Float) → reply_of result.answer ≡ (follow_outcome (receiver_of self re im abs) (receiver_of demod re₂ im₂ abs₂)).reply }
+        ensures receiver { (re im abs re₂ im₂ abs₂ : List Float) → receiver_of result.state re im abs ≡ (follow_outcome (receiver_of self re im abs) (receiver_of demod re₂ im₂ abs₂)).receiver }
+        ensures mode { result.answer ≡ Answer.Accepted → result.state.slots.mode ≡ mode_following (mode_of demod.slots.mode) self.slots.mode }
         ensures refused { (n : ℕ) → result.answer ≡ Answer.Refused n → result.state ≡ self }
     {
         let followed = sync_to_demodulator(self.slots, demod.slots);

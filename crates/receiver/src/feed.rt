@@ -1,9 +1,9 @@
 // A block of samples in one call.
 ghost use Rattle.std.specs.Prelude.{◌≡◌, false, ◌++◌, ◌+◌, ◌*◌, ◌/◌, ◌≤◌, length, take, drop};
-ghost use Rattle.fir.specs.Fir.{samplesOf};
-ghost use Rattle.receiver.specs.Feed.{interleaved, feedOf};
-ghost use Rattle.receiver.specs.Keep.{keepAll, anyBeyond, first_of};
-ghost use Rattle.receiver.specs.View.{receiverOf, Untouched};
+ghost use Rattle.fir.specs.Fir.{samples_of};
+ghost use Rattle.receiver.specs.Feed.{interleaved, feed_of};
+ghost use Rattle.receiver.specs.Keep.{keep_all, any_beyond, first_of};
+ghost use Rattle.receiver.specs.View.{receiver_of, Untouched};
 
 use crate::State;
 use dsp_types::{ACCEPTED, ComplexSample, SampleCount, least};
@@ -31,7 +31,7 @@ pub struct StateFed {
 fn parts_of(samples: &[f32], at: usize, most: usize, re: &mut [f32], im: &mut [f32]) -> usize
     requires { (at ≤ length samples.now / 2) × (length re.old ≡ 512) × (length im.old ≡ 512) }
     ensures few { (result ≤ most) × (result ≤ 512) × (at + result ≤ length samples.now / 2) }
-    ensures fine { anyBeyond (first_of result re.new im.new) ≡ false }
+    ensures fine { any_beyond (first_of result re.new im.new) ≡ false }
     ensures same { interleaved (drop (2 * at) samples.now) ≡ first_of result re.new im.new ++ interleaved (drop (2 * (at + result)) samples.now) }
     ensures long { (length re.new ≡ 512) × (length im.new ≡ 512) }
 {
@@ -61,7 +61,7 @@ impl State {
         y: &[f32],
         next: SampleCount,
     ) -> State
-        ensures { receiverOf result re.new im.new abs.new ≡ keepAll (receiverOf self re.old im.old abs.old) (take 512 (samplesOf x.now y.now)) next.0 }
+        ensures { receiver_of result re.new im.new abs.new ≡ keep_all (receiver_of self re.old im.old abs.old) (take 512 (samples_of x.now y.now)) next.0 }
     {
         let heard = self.listener.listen_all(re, im, abs, x, y);
         let mut d = self;
@@ -80,9 +80,9 @@ impl State {
         samples: &[f32],
         first: SampleCount,
     ) -> StateFed
-        ensures taken { result.taken ≡ (feedOf (receiverOf self re.old im.old abs.old) (interleaved samples.now) first.0).taken }
-        ensures stop { result.stop ≡ (feedOf (receiverOf self re.old im.old abs.old) (interleaved samples.now) first.0).stop }
-        ensures receiver { receiverOf result.state re.new im.new abs.new ≡ (feedOf (receiverOf self re.old im.old abs.old) (interleaved samples.now) first.0).receiver }
+        ensures taken { result.taken ≡ (feed_of (receiver_of self re.old im.old abs.old) (interleaved samples.now) first.0).taken }
+        ensures stop { result.stop ≡ (feed_of (receiver_of self re.old im.old abs.old) (interleaved samples.now) first.0).stop }
+        ensures receiver { receiver_of result.state re.new im.new abs.new ≡ (feed_of (receiver_of self re.old im.old abs.old) (interleaved samples.now) first.0).receiver }
         ensures refused { result.taken ≡ 0 → Untouched self result.state re.old re.new im.old im.new abs.old abs.new }
     {
         let mut s = self;

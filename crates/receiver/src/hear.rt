@@ -1,10 +1,10 @@
 // One sample is judged and, if it is not refused, heard, with zeros before it for those that are missing.
 ghost use Rattle.std.specs.Prelude.{◌≡◌, false, ◌-ℤ◌};
 ghost use Rattle.std.specs.Int.Signed.{lt_z};
-ghost use Rattle.slot_receiver.specs.Receiver.{validCount, processSample, missing, feedZeros, zerosBefore, accept};
-ghost use Rattle.slot_receiver.specs.Windows.{handsOver, windowOf, zerosWindows, acceptWindows};
+ghost use Rattle.slot_receiver.specs.Receiver.{valid_count, process_sample, missing, feed_zeros, zeros_before, accept};
+ghost use Rattle.slot_receiver.specs.Windows.{hands_over, window_of, zeros_windows, accept_windows};
 ghost use Rattle.slot_receiver.specs.Bounds.{Counter};
-ghost use Rattle.receiver.specs.View.{receiverOf, Untouched};
+ghost use Rattle.receiver.specs.View.{receiver_of, Untouched};
 ghost use Rattle.receiver.specs.Hearing.{Catching, Caught, Judges};
 
 use crate::State;
@@ -54,8 +54,8 @@ impl State {
         counter: SampleCount,
     ) -> Heard
         requires { Counter counter.0 }
-        ensures handed { result.handed ≡ handsOver (windowOf (receiverOf self re.old im.old abs.old) input counter.0) }
-        ensures state { receiverOf result.state re.new im.new abs.new ≡ processSample (receiverOf self re.old im.old abs.old) input counter.0 }
+        ensures handed { result.handed ≡ hands_over (window_of (receiver_of self re.old im.old abs.old) input counter.0) }
+        ensures state { receiver_of result.state re.new im.new abs.new ≡ process_sample (receiver_of self re.old im.old abs.old) input counter.0 }
     {
         let heard = self.listener.listen(re, im, abs, input);
         let arrived = self.slots.arrive(re, im, abs, heard.past_index, counter);
@@ -79,7 +79,7 @@ impl State {
         counter: SampleCount,
     ) -> Zeros
         requires { Catching count counter.0 }
-        ensures { Caught count (receiverOf self re.old im.old abs.old) counter.0 result.left result.handed (receiverOf result.state re.new im.new abs.new) }
+        ensures { Caught count (receiver_of self re.old im.old abs.old) counter.0 result.left result.handed (receiver_of result.state re.new im.new abs.new) }
     {
         let mut d = self;
         let mut left = count;
@@ -111,9 +111,9 @@ impl State {
         abs: &mut [f32; 2048],
         counter: SampleCount,
     ) -> Heard
-        requires { Counter counter.0 × (lt_z counter.0 (validCount self.next_input_sample_count.0) ≡ false) }
-        ensures handed { result.handed ≡ handsOver (zerosWindows (zerosBefore (receiverOf self re.old im.old abs.old) counter.0) (receiverOf self re.old im.old abs.old) counter.0) }
-        ensures state { receiverOf result.state re.new im.new abs.new ≡ feedZeros (zerosBefore (receiverOf self re.old im.old abs.old) counter.0) (receiverOf self re.old im.old abs.old) counter.0 }
+        requires { Counter counter.0 × (lt_z counter.0 (valid_count self.next_input_sample_count.0) ≡ false) }
+        ensures handed { result.handed ≡ hands_over (zeros_windows (zeros_before (receiver_of self re.old im.old abs.old) counter.0) (receiver_of self re.old im.old abs.old) counter.0) }
+        ensures state { receiver_of result.state re.new im.new abs.new ≡ feed_zeros (zeros_before (receiver_of self re.old im.old abs.old) counter.0) (receiver_of self re.old im.old abs.old) counter.0 }
     {
         let mut left = missing_samples(valid_count(self.next_input_sample_count), counter);
         let mut d = self;
@@ -136,9 +136,9 @@ impl State {
         input: ComplexSample,
         counter: SampleCount,
     ) -> Heard
-        requires { Counter counter.0 × (lt_z counter.0 (validCount self.next_input_sample_count.0) ≡ false) }
-        ensures handed { result.handed ≡ handsOver (acceptWindows (receiverOf self re.old im.old abs.old) input counter.0) }
-        ensures state { receiverOf result.state re.new im.new abs.new ≡ accept (receiverOf self re.old im.old abs.old) input counter.0 }
+        requires { Counter counter.0 × (lt_z counter.0 (valid_count self.next_input_sample_count.0) ≡ false) }
+        ensures handed { result.handed ≡ hands_over (accept_windows (receiver_of self re.old im.old abs.old) input counter.0) }
+        ensures state { receiver_of result.state re.new im.new abs.new ≡ accept (receiver_of self re.old im.old abs.old) input counter.0 }
     {
         let caught = self.catch_up(re, im, abs, counter);
         let heard = caught.state.process_sample(re, im, abs, input, counter);
@@ -160,7 +160,7 @@ impl State {
         input: ComplexSample,
         counter: SampleCount,
     ) -> Judged
-        ensures judged { Judges (receiverOf self re.old im.old abs.old) input counter.0 result.refusal result.handed (receiverOf result.state re.new im.new abs.new) }
+        ensures judged { Judges (receiver_of self re.old im.old abs.old) input counter.0 result.refusal result.handed (receiver_of result.state re.new im.new abs.new) }
         ensures refused { (result.refusal ≡ 0 → ⊥) → Untouched self result.state re.old re.new im.old im.new abs.old abs.new }
     {
         let next = valid_count(self.next_input_sample_count);

@@ -1,11 +1,11 @@
 // A new receiver, and samples one by one.
 ghost use Rattle.std.specs.Prelude.{◌≡◌, true, ℕ, ◌<◌, replicate};
-ghost use Rattle.dsp_types.specs.Samples.{zeroF};
+ghost use Rattle.dsp_types.specs.Samples.{zero_f};
 ghost use Rattle.slot_receiver.specs.Receiver.{with_next, new, listen};
-ghost use Rattle.slot_receiver.specs.Calls.{sampleOutcome, replyOf};
-ghost use Rattle.slot_receiver.specs.View.{modeNumber, clockOf};
+ghost use Rattle.slot_receiver.specs.Calls.{sample_outcome, reply_of};
+ghost use Rattle.slot_receiver.specs.View.{mode_number, clock_of};
 ghost use Rattle.receiver.specs.Keep.{OnlyKept, Keeps};
-ghost use Rattle.receiver.specs.View.{receiverOf, Untouched};
+ghost use Rattle.receiver.specs.View.{receiver_of, Untouched};
 
 use crate::State;
 use crate::hear::Judged;
@@ -42,8 +42,8 @@ fn answered(judged: Judged) -> StateAnswered
 impl State {
     // Its past is all zeros.
     pub fn new(initial_mode: Mode) -> State
-        ensures receiver { receiverOf result (replicate 2048 zeroF) (replicate 2048 zeroF) (replicate 2048 zeroF) ≡ new initial_mode }
-        ensures mode { result.slots.mode ≡ modeNumber initial_mode }
+        ensures receiver { receiver_of result (replicate 2048 zero_f) (replicate 2048 zero_f) (replicate 2048 zero_f) ≡ new initial_mode }
+        ensures mode { result.slots.mode ≡ mode_number initial_mode }
     {
         State {
             slots: SlotReceiver::new(initial_mode),
@@ -54,7 +54,7 @@ impl State {
 
     // How many samples from this counter on are only kept, since none is missing and no window closes.
     pub(crate) fn quiet_samples(self, counter: SampleCount) -> usize
-        ensures { 0 < result → OnlyKept (clockOf self.slots) self.slots.slots_since_last_valid_burst self.next_input_sample_count.0 counter.0 result }
+        ensures { 0 < result → OnlyKept (clock_of self.slots) self.slots.slots_since_last_valid_burst self.next_input_sample_count.0 counter.0 result }
     {
         if self.next_input_sample_count.is_same(counter) {
             return self.slots.quiet_samples(counter);
@@ -71,7 +71,7 @@ impl State {
         input: ComplexSample,
         next: SampleCount,
     ) -> State
-        ensures { receiverOf result re.new im.new abs.new ≡ with_next (listen (receiverOf self re.old im.old abs.old) input) next.0 }
+        ensures { receiver_of result re.new im.new abs.new ≡ with_next (listen (receiver_of self re.old im.old abs.old) input) next.0 }
     {
         let heard = self.listener.listen(re, im, abs, input);
         let mut d = self;
@@ -82,7 +82,7 @@ impl State {
 
     // Whether this sample is only kept.
     fn keeps(self, input: ComplexSample, counter: SampleCount) -> bool
-        ensures { result ≡ true → Keeps (clockOf self.slots) self.slots.slots_since_last_valid_burst self.next_input_sample_count.0 input counter.0 }
+        ensures { result ≡ true → Keeps (clock_of self.slots) self.slots.slots_since_last_valid_burst self.next_input_sample_count.0 input counter.0 }
     {
         !(is_beyond(input.re) | is_beyond(input.im)) & (0 < self.quiet_samples(counter))
     }
@@ -96,8 +96,8 @@ impl State {
         input: ComplexSample,
         sample_counter: SampleCount,
     ) -> StateAnswered
-        ensures answer { replyOf result.answer ≡ (sampleOutcome (receiverOf self re.old im.old abs.old) input sample_counter.0).reply }
-        ensures receiver { receiverOf result.state re.new im.new abs.new ≡ (sampleOutcome (receiverOf self re.old im.old abs.old) input sample_counter.0).receiver }
+        ensures answer { reply_of result.answer ≡ (sample_outcome (receiver_of self re.old im.old abs.old) input sample_counter.0).reply }
+        ensures receiver { receiver_of result.state re.new im.new abs.new ≡ (sample_outcome (receiver_of self re.old im.old abs.old) input sample_counter.0).receiver }
         ensures refused { (n : ℕ) → result.answer ≡ Answer.Refused n → Untouched self result.state re.old re.new im.old im.new abs.old abs.new }
     {
         if self.keeps(input, sample_counter) {

@@ -23,8 +23,9 @@ impl Output {
         if self.is_broken {
             return self;
         }
-        let is_written = streams::print_or_tell(
+        let is_written = streams::write_or_tell(
             rt,
+            &mut rt.output(),
             text::front(block, self.len),
             b"replay: the answers cannot be written",
         );

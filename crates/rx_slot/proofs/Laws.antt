@@ -11,10 +11,10 @@ use lib.Seq.{take_all, length-take-le}
 use borrow.Author.Tests.{le-leb}
 use Rattle.dsp_types.specs.Times.{slots}
 use Rattle.burst_finder.specs.declared.Finding.{Finding}
-use Rattle.burst_finder.specs.Slots.{mostErrors, getBurst}
+use Rattle.burst_finder.specs.Slots.{most_errors, get_burst}
 use Rattle.rx_slot.specs.declared.RxBurst.{RxBurst}
-use Rattle.rx_slot.specs.Views.{no_view, viewOn, storedBurst, storedView, isFound, validView, burstShown, padded}
-use Rattle.rx_slot.specs.Slots.{HandedSlot, validClosing, validSlot, shown, filled}
+use Rattle.rx_slot.specs.Views.{no_view, view_on, stored_burst, stored_view, is_found, valid_view, burst_shown, padded}
+use Rattle.rx_slot.specs.Slots.{HandedSlot, valid_closing, valid_slot, shown, filled}
 
 -- the front of a list, no longer than it is
 pub front : (n : ℕ) (l : List ℕ) → take (min n (length l)) l ≡ take n l
@@ -23,14 +23,14 @@ front (suc n) [] = let e : min (suc n) 0 ≡ 0 = omega arith in rw e
 front (suc n) (x ∷ l) = let e : min (suc n) (suc (length l)) ≡ suc (min n (length l)) = omega arith in rw e (ap (λ (t : List ℕ). x ∷ t) (front n l))
 
 -- what is stored of a finding is seen as that finding
-pub stored-finding : (n : ℕ) (bits : List ℕ) (f : Finding) → storedView n bits (storedBurst f) ≡ viewOn (take n bits) f
-unfolding storedView storedBurst viewOn
-stored-finding n bits f = refl
+pub stored_finding : (n : ℕ) (bits : List ℕ) (f : Finding) → stored_view n bits (stored_burst f) ≡ view_on (take n bits) f
+unfolding stored_view stored_burst view_on
+stored_finding n bits f = refl
 
 -- no burst, in whatever bits
-pub no-stored : {b : RxBurst} → b ≡ burstShown no_view → (n : ℕ) (bits : List ℕ) → storedView n bits b ≡ no_view
-unfolding storedView burstShown no_view getBurst
-no-stored e n bits = rw (e, le-leb 0 (length (take n bits)) (omega arith))
+pub no_stored : {b : RxBurst} → b ≡ burst_shown no_view → (n : ℕ) (bits : List ℕ) → stored_view n bits b ≡ no_view
+unfolding stored_view burst_shown no_view get_burst
+no_stored e n bits = rw (e, le-leb 0 (length (take n bits)) (omega arith))
 
 -- ---- lent bytes, filled one by one
 
@@ -46,19 +46,19 @@ pub fill_none : (bits out : List ℕ) → out ≡ padded 0 bits ++ drop 0 out
 unfolding padded
 fill_none bits out = refl
 
-pub length-padded : (n : ℕ) (bits : List ℕ) → length (padded n bits) ≡ n
+pub length_padded : (n : ℕ) (bits : List ℕ) → length (padded n bits) ≡ n
 unfolding padded
-length-padded zero bits = refl
-length-padded (suc n) [] = ap suc (length-padded n [])
-length-padded (suc n) (b ∷ bits) = ap suc (length-padded n bits)
+length_padded zero bits = refl
+length_padded (suc n) [] = ap suc (length_padded n [])
+length_padded (suc n) (b ∷ bits) = ap suc (length_padded n bits)
 
 -- the bits in front
-pub padded-front : (n : ℕ) (bits : List ℕ) → length bits ≤ n → take (length bits) (padded n bits) ≡ bits
+pub padded_front : (n : ℕ) (bits : List ℕ) → length bits ≤ n → take (length bits) (padded n bits) ≡ bits
 unfolding padded
-padded-front zero [] h = refl
-padded-front zero (b ∷ bits) h = absurd (omega arith)
-padded-front (suc n) [] h = refl
-padded-front (suc n) (b ∷ bits) h = ap (λ (l : List ℕ). b ∷ l) (padded-front n bits (omega arith))
+padded_front zero [] h = refl
+padded_front zero (b ∷ bits) h = absurd (omega arith)
+padded_front (suc n) [] h = refl
+padded_front (suc n) (b ∷ bits) h = ap (λ (l : List ℕ). b ∷ l) (padded_front n bits (omega arith))
 
 abbrev pub bit : ℕ → ℕ
 bit b = b % 2
@@ -69,56 +69,56 @@ bit_at [] i h = absurd (omega arith)
 bit_at (b ∷ bits) zero h = refl
 bit_at (b ∷ bits) (suc i) h = bit_at bits i (omega arith)
 
-pub zero-at : (bits : List ℕ) (i : ℕ) → length bits ≤ i → get_or (map bit bits) i 0 ≡ 0
-zero-at [] i h = refl
-zero-at (b ∷ bits) zero h = absurd (omega arith)
-zero-at (b ∷ bits) (suc i) h = zero-at bits i (omega arith)
+pub zero_at : (bits : List ℕ) (i : ℕ) → length bits ≤ i → get_or (map bit bits) i 0 ≡ 0
+zero_at [] i h = refl
+zero_at (b ∷ bits) zero h = absurd (omega arith)
+zero_at (b ∷ bits) (suc i) h = zero_at bits i (omega arith)
 
 -- ---- a stored burst, read
 
-length-bits : (bits : List ℕ) → length (map bit bits) ≡ length bits
-length-bits [] = refl
-length-bits (b ∷ bits) = ap suc (length-bits bits)
+length_bits : (bits : List ℕ) → length (map bit bits) ≡ length bits
+length_bits [] = refl
+length_bits (b ∷ bits) = ap suc (length_bits bits)
 
-module _ (b : RxBurst) (bits part : List ℕ) (e : part ≡ getBurst bits b.burst_pos b.burst_len) where
-  view : storedView (length bits) bits b ≡ record { type = b.train_type; errors = b.train_errs; place = b.burst_pos; bits = part }
-  unfolding storedView
+module _ (b : RxBurst) (bits part : List ℕ) (e : part ≡ get_burst bits b.burst_pos b.burst_len) where
+  view : stored_view (length bits) bits b ≡ record { type = b.train_type; errors = b.train_errs; place = b.burst_pos; bits = part }
+  unfolding stored_view
   view = rw (e, take_all (length bits) bits (omega arith))
 
   abbrev test : Bool
-  test = not (eqb b.train_type 0) && (leb b.train_type 4 && (leb b.train_errs mostErrors && not (eqb (length part) 0)))
+  test = not (eqb b.train_type 0) && (leb b.train_type 4 && (leb b.train_errs most_errors && not (eqb (length part) 0)))
 
-  pub view-found : test ≡ true
-      → validView (storedView (length bits) bits b) ≡ record { type = b.train_type; errors = b.train_errs; place = b.burst_pos; bits = map bit part }
-  unfolding validView isFound
-  view-found t = rw (view, t)
+  pub view_found : test ≡ true
+      → valid_view (stored_view (length bits) bits b) ≡ record { type = b.train_type; errors = b.train_errs; place = b.burst_pos; bits = map bit part }
+  unfolding valid_view is_found
+  view_found t = rw (view, t)
 
-  pub view-none : test ≡ false → validView (storedView (length bits) bits b) ≡ no_view
-  unfolding validView isFound
-  view-none t = rw (view, t)
+  pub view_none : test ≡ false → valid_view (stored_view (length bits) bits b) ≡ no_view
+  unfolding valid_view is_found
+  view_none t = rw (view, t)
 
-  pub told-found : test ≡ true
+  pub told_found : test ≡ true
       → record { train_type = b.train_type; train_errs = b.train_errs; burst_pos = b.burst_pos; burst_len = length part }
-      ≡ burstShown (validView (storedView (length bits) bits b))
-  unfolding burstShown
-  told-found t = rw (view-found t, length-bits part)
+      ≡ burst_shown (valid_view (stored_view (length bits) bits b))
+  unfolding burst_shown
+  told_found t = rw (view_found t, length_bits part)
 
 -- the window's bits are the front of those stored
-pub stored-front : (n : ℕ) (bits : List ℕ) (b : RxBurst) → n ≤ length bits → storedView (length (take n bits)) (take n bits) b ≡ storedView n bits b
-unfolding storedView
-stored-front n bits b h =
+pub stored_front : (n : ℕ) (bits : List ℕ) (b : RxBurst) → n ≤ length bits → stored_view (length (take n bits)) (take n bits) b ≡ stored_view n bits b
+unfolding stored_view
+stored_front n bits b h =
     let e : length (take n bits) ≡ n = length-take-le n bits h in
     rw (e, take_all n (take n bits) (omega arith))
 
 -- a slot as a take tells it, and its bytes
 module _ (h : HandedSlot) where
-  pub slot-told : (time : ℕ) (closing : ℤ) (full first second : RxBurst) → time ≡ h.time % slots → closing ≡ validClosing h.closingCounter
-      → full ≡ burstShown (validView h.full) → first ≡ burstShown (validView h.subslot1) → second ≡ burstShown (validView h.subslot2)
-      → record { time = record { 0 = time }; closing_counter = record { 0 = closing }; full = full; subslot1 = first; subslot2 = second } ≡ shown (validSlot h)
-  unfolding shown validSlot
-  slot-told time closing full first second t k a b c = rw (t, k, a, b, c)
+  pub slot_told : (time : ℕ) (closing : ℤ) (full first second : RxBurst) → time ≡ h.time % slots → closing ≡ valid_closing h.closing_counter
+      → full ≡ burst_shown (valid_view h.full) → first ≡ burst_shown (valid_view h.subslot1) → second ≡ burst_shown (valid_view h.subslot2)
+      → record { time = record { 0 = time }; closing_counter = record { 0 = closing }; full = full; subslot1 = first; subslot2 = second } ≡ shown (valid_slot h)
+  unfolding shown valid_slot
+  slot_told time closing full first second t k a b c = rw (t, k, a, b, c)
 
-  pub slot-filled : (slot first second : List ℕ) → slot ≡ padded 510 (validView h.full).bits → first ≡ padded 254 (validView h.subslot1).bits
-      → second ≡ padded 254 (validView h.subslot2).bits → slot ∷ first ∷ second ∷ [] ≡ filled (validSlot h)
-  unfolding filled validSlot
-  slot-filled slot first second a b c = rw (a, b, c)
+  pub slot_filled : (slot first second : List ℕ) → slot ≡ padded 510 (valid_view h.full).bits → first ≡ padded 254 (valid_view h.subslot1).bits
+      → second ≡ padded 254 (valid_view h.subslot2).bits → slot ∷ first ∷ second ∷ [] ≡ filled (valid_slot h)
+  unfolding filled valid_slot
+  slot_filled slot first second a b c = rw (a, b, c)

@@ -1,7 +1,7 @@
 // The burst in a window's bits.
 ghost use Rattle.std.specs.Prelude.{◌≡◌, take};
-ghost use Rattle.burst_finder.specs.Slots.{checkSlot};
-ghost use Rattle.rx_slot.specs.Views.{storedBurst};
+ghost use Rattle.burst_finder.specs.Slots.{check_slot};
+ghost use Rattle.rx_slot.specs.Views.{stored_burst};
 
 use crate::RxBurst;
 use burst_finder::SlotType;
@@ -9,7 +9,7 @@ use dsp_types::least;
 
 // The burst in the first n bits, checked as those of a slot of this type.
 pub fn checked_burst(slot_type: SlotType, bits: [u8; 510], n: usize) -> RxBurst
-    ensures { result ≡ storedBurst (checkSlot slot_type (take n bits)) }
+    ensures { result ≡ stored_burst (check_slot slot_type (take n bits)) }
 {
     let found = burst_finder::check_slot(slot_type, &bits[..least(n, 510)]);
     let train_type = found.train_type;

@@ -5,7 +5,7 @@ mod check;
 mod take;
 
 ghost use Rattle.std.specs.Prelude.{◌≡◌};
-ghost use Rattle.rx_slot.specs.Views.{no_view, burstShown};
+ghost use Rattle.rx_slot.specs.Views.{no_view, burst_shown};
 
 pub use check::checked_burst;
 use dsp_types::{SampleCount, TdmaTime};
@@ -36,7 +36,7 @@ pub struct RxSlot {
 
 // No burst.
 pub fn no_burst() -> RxBurst
-    ensures { result ≡ burstShown no_view }
+    ensures { result ≡ burst_shown no_view }
 {
     RxBurst {
         train_type: 0,

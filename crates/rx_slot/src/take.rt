@@ -1,8 +1,8 @@
 // A stored slot's burst and closing counter, as they are taken.
 ghost use Rattle.std.specs.Prelude.{◌≡◌, not, ◌&&◌, map, ◌%◌, eqb, leb, length};
-ghost use Rattle.burst_finder.specs.Slots.{mostErrors};
-ghost use Rattle.rx_slot.specs.Slots.{validClosing};
-ghost use Rattle.rx_slot.specs.Views.{storedView, validView, burstShown, padded};
+ghost use Rattle.burst_finder.specs.Slots.{most_errors};
+ghost use Rattle.rx_slot.specs.Slots.{valid_closing};
+ghost use Rattle.rx_slot.specs.Views.{stored_view, valid_view, burst_shown, padded};
 
 use crate::{RxBurst, no_burst};
 use burst_finder::MAX_ERRS;
@@ -23,15 +23,15 @@ fn fill(bits: &[u8], out: &mut [u8])
 
 // Whether a stored burst, with so many bits, is one that a window can have left.
 fn is_found(train_type: u8, train_errs: usize, len: usize) -> bool
-    ensures { result ≡ (not (eqb train_type 0) && (leb train_type 4 && (leb train_errs mostErrors && not (eqb len 0)))) }
+    ensures { result ≡ (not (eqb train_type 0) && (leb train_type 4 && (leb train_errs most_errors && not (eqb len 0)))) }
 {
     (train_type != 0) & ((train_type <= 4) & ((train_errs <= MAX_ERRS) & (len != 0)))
 }
 
 // Fills lent bytes with the view of a stored burst in a window's bits, and tells of it.
 pub fn take_burst(burst: RxBurst, bits: &[u8], out: &mut [u8]) -> RxBurst
-    ensures told { result ≡ burstShown (validView (storedView (length bits.now) bits.now burst)) }
-    ensures bytes { out.new ≡ padded (length out.old) (validView (storedView (length bits.now) bits.now burst)).bits }
+    ensures told { result ≡ burst_shown (valid_view (stored_view (length bits.now) bits.now burst)) }
+    ensures bytes { out.new ≡ padded (length out.old) (valid_view (stored_view (length bits.now) bits.now burst)).bits }
 {
     let part = burst_finder::get_burst(bits, burst.burst_pos, burst.burst_len);
     if is_found(burst.train_type, burst.train_errs, part.len()) {
@@ -48,9 +48,9 @@ pub fn take_burst(burst: RxBurst, bits: &[u8], out: &mut [u8]) -> RxBurst
 }
 
 // A closing counter that no sample can have counts as 0.
-#[tactic(auto, unfolding(crate::specs::Slots::validClosing))]
+#[tactic(auto, unfolding(crate::specs::Slots::valid_closing))]
 pub fn valid_closing(counter: SampleCount) -> SampleCount
-    ensures { result.0 ≡ validClosing counter.0 }
+    ensures { result.0 ≡ valid_closing counter.0 }
 {
     if counter.is_out_of_count() {
         SampleCount(0)

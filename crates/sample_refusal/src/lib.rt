@@ -3,7 +3,7 @@
 
 ghost use Rattle.std.specs.Prelude.{◌≡◌};
 ghost use Rattle.dsp_types.specs.Refusals.{beyond};
-ghost use Rattle.slot_receiver.specs.Calls.{sampleRefusal};
+ghost use Rattle.slot_receiver.specs.Calls.{sample_refusal};
 
 use dsp_types::{ACCEPTED, BAD_COUNTER, BAD_SAMPLE, ComplexSample, PAST_COUNTER, SampleCount};
 
@@ -16,7 +16,7 @@ pub fn is_beyond(part: f32) -> bool
 
 // 0, or the refusal of a sample, where next is the counter after the last accepted one.
 pub fn sample_refusal(next: SampleCount, input: ComplexSample, counter: SampleCount) -> u32
-    ensures { result ≡ sampleRefusal next.0 input counter.0 }
+    ensures { result ≡ sample_refusal next.0 input counter.0 }
 {
     if is_beyond(input.re) | is_beyond(input.im) {
         return BAD_SAMPLE;

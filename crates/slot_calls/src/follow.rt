@@ -1,8 +1,8 @@
 // A receiver follows another.
 ghost use Rattle.std.specs.Prelude.{◌≡◌, ℕ, ℤ};
 ghost use Rattle.listener.specs.Signal.{Signal};
-ghost use Rattle.slot_receiver.specs.Calls.{slotWhen, following, followOutcome, replyOf};
-ghost use Rattle.slot_receiver.specs.View.{mode_of, modeFollowing, receiverFrom};
+ghost use Rattle.slot_receiver.specs.Calls.{slot_when, following, follow_outcome, reply_of};
+ghost use Rattle.slot_receiver.specs.View.{mode_of, mode_following, receiver_from};
 
 use dsp_types::{NOT_FOLLOWING, TdmaTime};
 use slot_receiver::{Answer, SlotReceiver};
@@ -15,7 +15,7 @@ pub struct Followed {
 
 // An idle receiver takes the other's last slot number too.
 fn slot_when(mode: u8, other: TdmaTime, own: TdmaTime) -> TdmaTime
-    ensures { result.0 ≡ slotWhen (mode_of mode) other.0 own.0 }
+    ensures { result.0 ≡ slot_when (mode_of mode) other.0 own.0 }
 {
     match mode {
         1 => own,
@@ -27,8 +27,8 @@ fn slot_when(mode: u8, other: TdmaTime, own: TdmaTime) -> TdmaTime
 
 // Idle while the other searches, uplink once it is locked.
 fn follow(slots: SlotReceiver, demod: SlotReceiver) -> SlotReceiver
-    ensures receiver { (next next₂ : ℤ) (s s₂ : Signal) → receiverFrom result next s ≡ following (mode_of demod.mode) (receiverFrom slots next s) (receiverFrom demod next₂ s₂) }
-    ensures mode { result.mode ≡ modeFollowing (mode_of demod.mode) slots.mode }
+    ensures receiver { (next next₂ : ℤ) (s s₂ : Signal) → receiver_from result next s ≡ following (mode_of demod.mode) (receiver_from slots next s) (receiver_from demod next₂ s₂) }
+    ensures mode { result.mode ≡ mode_following (mode_of demod.mode) slots.mode }
 {
     let other = demod.mode;
     let reference = demod.reference_time;
@@ -51,9 +51,9 @@ fn follow(slots: SlotReceiver, demod: SlotReceiver) -> SlotReceiver
 
 // Takes the slot timing of another receiver. A receiver that finds its own is refused.
 pub fn sync_to_demodulator(slots: SlotReceiver, demod: SlotReceiver) -> Followed
-    ensures answer { (next next₂ : ℤ) (s s₂ : Signal) → replyOf result.answer ≡ (followOutcome (receiverFrom slots next s) (receiverFrom demod next₂ s₂)).reply }
-    ensures receiver { (next next₂ : ℤ) (s s₂ : Signal) → receiverFrom result.slots next s ≡ (followOutcome (receiverFrom slots next s) (receiverFrom demod next₂ s₂)).receiver }
-    ensures mode { result.answer ≡ Answer.Accepted → result.slots.mode ≡ modeFollowing (mode_of demod.mode) slots.mode }
+    ensures answer { (next next₂ : ℤ) (s s₂ : Signal) → reply_of result.answer ≡ (follow_outcome (receiver_from slots next s) (receiver_from demod next₂ s₂)).reply }
+    ensures receiver { (next next₂ : ℤ) (s s₂ : Signal) → receiver_from result.slots next s ≡ (follow_outcome (receiver_from slots next s) (receiver_from demod next₂ s₂)).receiver }
+    ensures mode { result.answer ≡ Answer.Accepted → result.slots.mode ≡ mode_following (mode_of demod.mode) slots.mode }
     ensures refused { (n : ℕ) → result.answer ≡ Answer.Refused n → result.slots ≡ slots }
 {
     let mode = slots.mode;

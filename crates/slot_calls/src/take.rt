@@ -1,9 +1,9 @@
 // The slot handed over last is taken.
 ghost use Rattle.std.specs.Prelude.{◌≡◌, cond, [], ◌∷◌, ℕ, ℤ};
-ghost use Rattle.dsp_types.specs.Refusals.{accepted, badLength, noSlotWaits};
+ghost use Rattle.dsp_types.specs.Refusals.{accepted, bad_length, no_slot_waits};
 ghost use Rattle.listener.specs.Signal.{Signal};
-ghost use Rattle.slot_receiver.specs.Calls.{takeOutcome, takeReplyOf, inNumbers};
-ghost use Rattle.slot_receiver.specs.View.{receiverFrom};
+ghost use Rattle.slot_receiver.specs.Calls.{take_outcome, take_reply_of, in_numbers};
+ghost use Rattle.slot_receiver.specs.View.{receiver_from};
 
 use dsp_types::{ACCEPTED, BAD_LENGTH, NO_SLOT, TdmaTime};
 use rx_slot::{take_burst, valid_closing};
@@ -17,7 +17,7 @@ pub struct Taken {
 
 // 0, or the refusal of a take.
 fn take_refusal(wrong_length: bool, available: bool) -> u32
-    ensures { result ≡ cond wrong_length badLength (cond available accepted noSlotWaits) }
+    ensures { result ≡ cond wrong_length bad_length (cond available accepted no_slot_waits) }
 {
     if wrong_length {
         return BAD_LENGTH;
@@ -32,9 +32,9 @@ pub fn take_demodulated_slot(
     subslot1: &mut [u8],
     subslot2: &mut [u8],
 ) -> Taken
-    ensures answer { (next : ℤ) (s : Signal) → takeReplyOf result.answer ≡ inNumbers (takeOutcome (receiverFrom slots next s) slot.old subslot1.old subslot2.old).reply }
-    ensures receiver { (next : ℤ) (s : Signal) → receiverFrom result.slots next s ≡ (takeOutcome (receiverFrom slots next s) slot.old subslot1.old subslot2.old).receiver }
-    ensures lent { (next : ℤ) (s : Signal) → slot.new ∷ subslot1.new ∷ subslot2.new ∷ [] ≡ (takeOutcome (receiverFrom slots next s) slot.old subslot1.old subslot2.old).lent }
+    ensures answer { (next : ℤ) (s : Signal) → take_reply_of result.answer ≡ in_numbers (take_outcome (receiver_from slots next s) slot.old subslot1.old subslot2.old).reply }
+    ensures receiver { (next : ℤ) (s : Signal) → receiver_from result.slots next s ≡ (take_outcome (receiver_from slots next s) slot.old subslot1.old subslot2.old).receiver }
+    ensures lent { (next : ℤ) (s : Signal) → slot.new ∷ subslot1.new ∷ subslot2.new ∷ [] ≡ (take_outcome (receiver_from slots next s) slot.old subslot1.old subslot2.old).lent }
     ensures refused { (n : ℕ) → result.answer ≡ TakeAnswer.Refused n → result.slots ≡ slots }
 {
     let wrong = (slot.len() != 510) | ((subslot1.len() != 254) | (subslot2.len() != 254));

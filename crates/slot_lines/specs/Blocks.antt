@@ -7,29 +7,29 @@ use Rattle.receiver.specs.declared.feed.Stop.{Stop}
 use Rattle.receiver.specs.declared.feed.Stop.TheVariants.{End, Slot, Refused}
 use Rattle.rx_slot.specs.Slots.{HandedSlot}
 use Rattle.slot_receiver.specs.Receiver.{Receiver}
-use Rattle.slot_receiver.specs.Windows.{handsOver}
-use Rattle.slot_receiver.specs.Calls.{Reply, refused, done, took, Outcome, sampleOutcome, takeOutcome}
-use Rattle.receiver.specs.Feed.{feedOf}
-use Rattle.receiver.specs.View.{receiverOf}
+use Rattle.slot_receiver.specs.Windows.{hands_over}
+use Rattle.slot_receiver.specs.Calls.{Reply, refused, done, took, Outcome, sample_outcome, take_outcome}
+use Rattle.receiver.specs.Feed.{feed_of}
+use Rattle.receiver.specs.View.{receiver_of}
 use Rattle.text.specs.Text.{text_of}
-use Rattle.slot_text.specs.Lines.{slotLine}
+use Rattle.slot_text.specs.Lines.{slot_line}
 use Rattle.slot_lines.specs.declared.listen.Style.{Style}
 use Rattle.slot_lines.specs.declared.listen.Heard.{Heard}
 
 -- a take with bytes of the right lengths
-unfoldable pub takeNext : Receiver → Outcome
-takeNext r = takeOutcome r (replicate 510 0) (replicate 254 0) (replicate 254 0)
+unfoldable pub take_next : Receiver → Outcome
+take_next r = take_outcome r (replicate 510 0) (replicate 254 0) (replicate 254 0)
 
 -- the line of the slot that a take gave, if it gave one
-unfoldable pub takenLine : Style → Reply HandedSlot → List ℕ
-takenLine style (refused n) = []
-takenLine style done = []
-takenLine style (took h) = slotLine style.form style.has_bits style.link h
+unfoldable pub taken_line : Style → Reply HandedSlot → List ℕ
+taken_line style (refused n) = []
+taken_line style done = []
+taken_line style (took h) = slot_line style.form style.has_bits style.link h
 
 -- a receiver after a sample: where that handed a slot over, it is taken
-unfoldable pub takenIf : Bool → Receiver → Outcome
-takenIf true r = takeNext r
-takenIf false r = record { reply = done; receiver = r; windows = []; lent = [] }
+unfoldable pub taken_if : Bool → Receiver → Outcome
+taken_if true r = take_next r
+taken_if false r = record { reply = done; receiver = r; windows = []; lent = [] }
 
 -- ---- a whole block, sample by sample
 
@@ -44,11 +44,11 @@ pub record Printed : Type 0 where
   pub receiver : Receiver
 
 -- a sample that came to this outcome
-unfoldable pub printedOne : Style → Outcome → Printed
-printedOne style o = let t = takenIf (handsOver o.windows) o.receiver in record { lines = takenLine style t.reply; slot = handsOver o.windows; receiver = t.receiver }
+unfoldable pub printed_one : Style → Outcome → Printed
+printed_one style o = let t = taken_if (hands_over o.windows) o.receiver in record { lines = taken_line style t.reply; slot = hands_over o.windows; receiver = t.receiver }
 
-unfoldable pub hearOne : Style → Receiver → ComplexSample → ℤ → Printed
-hearOne style r x c = printedOne style (sampleOutcome r (mended x) c)
+unfoldable pub hear_one : Style → Receiver → ComplexSample → ℤ → Printed
+hear_one style r x c = printed_one style (sample_outcome r (mended x) c)
 
 -- lines, and what is printed behind them
 unfoldable pub before : List ℕ → Printed → Printed
@@ -57,7 +57,7 @@ before lines rest = record { lines = lines ++ rest.lines; slot = rest.slot; rece
 -- samples with the counters c, c + 1, ..
 unfoldable pub printed : Style → Receiver → List ComplexSample → ℤ → Printed
 printed style r [] c = record { lines = []; slot = false; receiver = r }
-printed style r (x ∷ xs) c = let p = hearOne style r x c in before p.lines (printed style p.receiver xs (c +ℤ pos 1))
+printed style r (x ∷ xs) c = let p = hear_one style r x c in before p.lines (printed style p.receiver xs (c +ℤ pos 1))
 
 -- ---- a step on the way: up to the first slot, which is taken, or up to the first refused sample, for which a zero is heard
 
@@ -68,26 +68,26 @@ pub record Step : Type 0 where
   pub heard : Printed
 
 -- a row of samples that was fed, by why no more were taken
-unfoldable pub stretchBy : Style → ℕ → Stop → Receiver → Step
-stretchBy style n End r = record { taken = n; refusal = accepted; heard = record { lines = []; slot = false; receiver = r } }
-stretchBy style n Slot r = let t = takeNext r in record { taken = n; refusal = accepted; heard = record { lines = takenLine style t.reply; slot = true; receiver = t.receiver } }
-stretchBy style n (Refused m) r = record { taken = n; refusal = m; heard = record { lines = []; slot = false; receiver = r } }
+unfoldable pub stretch_by : Style → ℕ → Stop → Receiver → Step
+stretch_by style n End r = record { taken = n; refusal = accepted; heard = record { lines = []; slot = false; receiver = r } }
+stretch_by style n Slot r = let t = take_next r in record { taken = n; refusal = accepted; heard = record { lines = taken_line style t.reply; slot = true; receiver = t.receiver } }
+stretch_by style n (Refused m) r = record { taken = n; refusal = m; heard = record { lines = []; slot = false; receiver = r } }
 
-unfoldable pub stretchOf : Style → Receiver → List ComplexSample → ℤ → Step
-stretchOf style r xs c = let fed = feedOf r xs c in stretchBy style fed.taken fed.stop fed.receiver
+unfoldable pub stretch_of : Style → Receiver → List ComplexSample → ℤ → Step
+stretch_of style r xs c = let fed = feed_of r xs c in stretch_by style fed.taken fed.stop fed.receiver
 
 -- where the sample behind a row is refused, a zero with its counter is heard
-unfoldable pub mendedBy : Style → ℕ → Step → ℤ → Step
-mendedBy style zero s c = s
-mendedBy style (suc m) s c = record { taken = suc s.taken; refusal = suc m; heard = (stretchOf style s.heard.receiver (silence ∷ []) (c +ℤ pos s.taken)).heard }
+unfoldable pub mended_by : Style → ℕ → Step → ℤ → Step
+mended_by style zero s c = s
+mended_by style (suc m) s c = record { taken = suc s.taken; refusal = suc m; heard = (stretch_of style s.heard.receiver (silence ∷ []) (c +ℤ pos s.taken)).heard }
 
 unfoldable pub step_of : Style → Receiver → List ComplexSample → ℤ → Step
-step_of style r xs c = let s = stretchOf style r xs c in mendedBy style s.refusal s c
+step_of style r xs c = let s = stretch_of style r xs c in mended_by style s.refusal s c
 
 -- a step, and what the samples behind it print
-unfoldable pub fromStep : Style → Step → List ComplexSample → ℤ → Printed
-fromStep style s xs c = before s.heard.lines (printed style s.heard.receiver (drop s.taken xs) (c +ℤ pos s.taken))
+unfoldable pub from_step : Style → Step → List ComplexSample → ℤ → Printed
+from_step style s xs c = before s.heard.lines (printed style s.heard.receiver (drop s.taken xs) (c +ℤ pos s.taken))
 
 -- the step that was made, with the rings of the receiver's past
-unfoldable pub stepMade : Heard → (re im abs : List Float) → Step
-stepMade h re im abs = record { taken = h.taken; refusal = h.refusal; heard = record { lines = text_of h.line; slot = h.slot; receiver = receiverOf h.state re im abs } }
+unfoldable pub step_made : Heard → (re im abs : List Float) → Step
+step_made h re im abs = record { taken = h.taken; refusal = h.refusal; heard = record { lines = text_of h.line; slot = h.slot; receiver = receiver_of h.state re im abs } }

@@ -2,8 +2,8 @@
 ghost use Rattle.std.specs.Prelude.{◌≡◌, List, ◌++◌, Float, pos, ◌+ℤ◌, length, take, drop};
 ghost use Rattle.text.specs.Text.{text_of};
 ghost use Rattle.receiver.specs.Feed.{interleaved};
-ghost use Rattle.receiver.specs.View.{receiverOf};
-ghost use Rattle.slot_lines.specs.Links.{followIf, beginsIf, shownOf, restPrinted, leadStep, catchUpStep, bothStep, bothOf, bothMade};
+ghost use Rattle.receiver.specs.View.{receiver_of};
+ghost use Rattle.slot_lines.specs.Links.{follow_if, begins_if, shown_of, rest_printed, lead_step, catch_up_step, both_step, both_of, both_made};
 
 use crate::listen::{Style, hear};
 use dsp_types::{SampleCount, least};
@@ -43,7 +43,7 @@ pub fn first_samples(samples: &[f32], n: usize) -> &[f32]
 
 // The uplink, which follows where the downlink handed a slot over.
 fn follow_if(slot: bool, up: State, down: State) -> State
-    ensures { (re im abs re₂ im₂ abs₂ : List Float) → receiverOf result re im abs ≡ followIf slot (receiverOf up re im abs) (receiverOf down re₂ im₂ abs₂) }
+    ensures { (re im abs re₂ im₂ abs₂ : List Float) → receiver_of result re im abs ≡ follow_if slot (receiver_of up re im abs) (receiver_of down re₂ im₂ abs₂) }
 {
     if slot {
         let followed = up.sync_to_demodulator(down);
@@ -56,7 +56,7 @@ fn follow_if(slot: bool, up: State, down: State) -> State
 // Whether the uplink's next slot is its first by its old timing, behind an order to follow if there was one. The next
 // sample has this counter.
 fn begins_if(slot: bool, up: State, counter: SampleCount, begins: bool) -> bool
-    ensures { (re im abs : List Float) → result ≡ beginsIf slot (receiverOf up re im abs) counter.0 begins }
+    ensures { (re im abs : List Float) → result ≡ begins_if slot (receiver_of up re im abs) counter.0 begins }
 {
     if slot {
         let is_past = up.slots.slot_ready_time.plus(16).is_before(counter);
@@ -67,9 +67,9 @@ fn begins_if(slot: bool, up: State, counter: SampleCount, begins: bool) -> bool
 }
 
 // What is shown of a line.
-#[tactic(auto, unfolding(crate::specs::Links::shownOf))]
+#[tactic(auto, unfolding(crate::specs::Links::shown_of))]
 fn shown(begins: bool, line: Text) -> Text
-    ensures { text_of result ≡ shownOf begins (text_of line) }
+    ensures { text_of result ≡ shown_of begins (text_of line) }
 {
     if begins { Text::new() } else { line }
 }
@@ -86,7 +86,7 @@ impl Links {
         form: Form,
         has_bits: bool,
     ) -> LinksHeard
-        ensures { (upRe upIm upAbs : List Float) → bothMade result re.new im.new abs.new upRe upIm upAbs ≡ leadStep form has_bits (bothOf self re.old im.old abs.old upRe upIm upAbs) (interleaved samples.now) first.0 }
+        ensures { (up_re up_im up_abs : List Float) → both_made result re.new im.new abs.new up_re up_im up_abs ≡ lead_step form has_bits (both_of self re.old im.old abs.old up_re up_im up_abs) (interleaved samples.now) first.0 }
     {
         let style = Style {
             form,
@@ -126,7 +126,7 @@ impl Links {
         form: Form,
         has_bits: bool,
     ) -> LinksHeard
-        ensures { (downRe downIm downAbs : List Float) → bothMade result downRe downIm downAbs re.new im.new abs.new ≡ catchUpStep form has_bits (bothOf self downRe downIm downAbs re.old im.old abs.old) (interleaved samples.now) first.0 }
+        ensures { (down_re down_im down_abs : List Float) → both_made result down_re down_im down_abs re.new im.new abs.new ≡ catch_up_step form has_bits (both_of self down_re down_im down_abs re.old im.old abs.old) (interleaved samples.now) first.0 }
     {
         let style = Style {
             form,
@@ -166,8 +166,8 @@ pub fn hear_links(
     form: Form,
     has_bits: bool,
 ) -> LinksHeard
-    ensures step { bothMade result re.new im.new abs.new up_re.new up_im.new up_abs.new ≡ bothStep form has_bits (bothOf links re.old im.old abs.old up_re.old up_im.old up_abs.old) (interleaved samples.now) (interleaved up_samples.now) first.0 }
-    ensures whole { length (interleaved samples.now) ≡ length (interleaved up_samples.now) → restPrinted form has_bits (bothOf links re.old im.old abs.old up_re.old up_im.old up_abs.old) (interleaved samples.now) (interleaved up_samples.now) first.0 ≡ text_of result.line ++ restPrinted form has_bits (bothOf result.links re.new im.new abs.new up_re.new up_im.new up_abs.new) (drop result.taken (interleaved samples.now)) (drop result.taken (interleaved up_samples.now)) (first.0 +ℤ pos result.taken) }
+    ensures step { both_made result re.new im.new abs.new up_re.new up_im.new up_abs.new ≡ both_step form has_bits (both_of links re.old im.old abs.old up_re.old up_im.old up_abs.old) (interleaved samples.now) (interleaved up_samples.now) first.0 }
+    ensures whole { length (interleaved samples.now) ≡ length (interleaved up_samples.now) → rest_printed form has_bits (both_of links re.old im.old abs.old up_re.old up_im.old up_abs.old) (interleaved samples.now) (interleaved up_samples.now) first.0 ≡ text_of result.line ++ rest_printed form has_bits (both_of result.links re.new im.new abs.new up_re.new up_im.new up_abs.new) (drop result.taken (interleaved samples.now)) (drop result.taken (interleaved up_samples.now)) (first.0 +ℤ pos result.taken) }
 {
     if links.behind == 0 {
         links.lead(re, im, abs, samples, first, form, has_bits)

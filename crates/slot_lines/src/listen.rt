@@ -3,8 +3,8 @@ ghost use Rattle.std.specs.Prelude.{◌≡◌, true, false, List, [], ◌/◌, �
 ghost use Rattle.dsp_types.specs.Refusals.{accepted};
 ghost use Rattle.text.specs.Text.{text_of};
 ghost use Rattle.receiver.specs.Feed.{interleaved};
-ghost use Rattle.receiver.specs.View.{receiverOf};
-ghost use Rattle.slot_lines.specs.Blocks.{takeNext, takenLine, printed, stretchOf, step_of, fromStep, stepMade};
+ghost use Rattle.receiver.specs.View.{receiver_of};
+ghost use Rattle.slot_lines.specs.Blocks.{take_next, taken_line, printed, stretch_of, step_of, from_step, step_made};
 
 use dsp_types::{ACCEPTED, SampleCount};
 use receiver::{State, Stop};
@@ -33,7 +33,7 @@ pub struct Heard {
 
 // Nothing is printed.
 fn no_line(taken: usize, refusal: u32, state: State) -> Heard
-    ensures { (result.taken ≡ taken) × ((result.refusal ≡ refusal) × ((result.slot ≡ false) × ((text_of result.line ≡ []) × ((re im abs : List Float) → receiverOf result.state re im abs ≡ receiverOf state re im abs)))) }
+    ensures { (result.taken ≡ taken) × ((result.refusal ≡ refusal) × ((result.slot ≡ false) × ((text_of result.line ≡ []) × ((re im abs : List Float) → receiver_of result.state re im abs ≡ receiver_of state re im abs)))) }
 {
     Heard {
         taken,
@@ -47,8 +47,8 @@ fn no_line(taken: usize, refusal: u32, state: State) -> Heard
 // Takes the slot that waits behind so many samples.
 fn take_line(taken: usize, state: State, style: Style) -> Heard
     ensures step { (result.taken ≡ taken) × ((result.refusal ≡ accepted) × (result.slot ≡ true)) }
-    ensures line { (re im abs : List Float) → text_of result.line ≡ takenLine style (takeNext (receiverOf state re im abs)).reply }
-    ensures receiver { (re im abs : List Float) → receiverOf result.state re im abs ≡ (takeNext (receiverOf state re im abs)).receiver }
+    ensures line { (re im abs : List Float) → text_of result.line ≡ taken_line style (take_next (receiver_of state re im abs)).reply }
+    ensures receiver { (re im abs : List Float) → receiver_of result.state re im abs ≡ (take_next (receiver_of state re im abs)).receiver }
 {
     let mut slot = [0u8; 510];
     let mut subslot1 = [0u8; 254];
@@ -97,7 +97,7 @@ fn hear_row(
     first: SampleCount,
     style: Style,
 ) -> Heard
-    ensures step { stepMade result re.new im.new abs.new ≡ stretchOf style (receiverOf state re.old im.old abs.old) (interleaved samples.now) first.0 }
+    ensures step { step_made result re.new im.new abs.new ≡ stretch_of style (receiver_of state re.old im.old abs.old) (interleaved samples.now) first.0 }
 {
     let fed = state.feed(re, im, abs, samples, first);
     let taken = fed.taken;
@@ -121,8 +121,8 @@ pub fn hear(
     first: SampleCount,
     style: Style,
 ) -> Heard
-    ensures step { stepMade result re.new im.new abs.new ≡ step_of style (receiverOf state re.old im.old abs.old) (interleaved samples.now) first.0 }
-    ensures whole { printed style (receiverOf state re.old im.old abs.old) (interleaved samples.now) first.0 ≡ fromStep style (stepMade result re.new im.new abs.new) (interleaved samples.now) first.0 }
+    ensures step { step_made result re.new im.new abs.new ≡ step_of style (receiver_of state re.old im.old abs.old) (interleaved samples.now) first.0 }
+    ensures whole { printed style (receiver_of state re.old im.old abs.old) (interleaved samples.now) first.0 ≡ from_step style (step_made result re.new im.new abs.new) (interleaved samples.now) first.0 }
     ensures onward { (result.taken ≤ length samples.now / 2) × (0 < length samples.now / 2 → 0 < result.taken) }
 {
     let row = hear_row(state, re, im, abs, samples, first, style);

@@ -9,9 +9,9 @@ use lib.Signed.{lt_z}
 use borrow.Author.Tests.{ltb-false}
 use Rattle.dsp_types.specs.declared.ComplexSample.{ComplexSample}
 use Rattle.dsp_types.proofs.IntLaws.{less, same}
-use Rattle.dsp_types.specs.Refusals.{beyond, outOfCount, counters, lastCounter}
+use Rattle.dsp_types.specs.Refusals.{beyond, out_of_count, counters, last_counter}
 use Rattle.slot_receiver.specs.Receiver.{missing}
-use Rattle.slot_receiver.specs.Calls.{sampleRefusal}
+use Rattle.slot_receiver.specs.Calls.{sample_refusal}
 
 -- the counter of a sample that is accepted where n is expected
 pub record Accepted (n : ℕ) (c : ℤ) : Type 0 where
@@ -20,24 +20,24 @@ pub record Accepted (n : ℕ) (c : ℤ) : Type 0 where
   pub below : counter < counters
   pub least : n ≤ counter
 
-pub accepted-at : (next : ℤ) (x : ComplexSample) (c : ℤ) (n : ℕ) → sampleRefusal next x c ≡ 0 → next ≡ pos n → Accepted n c
-unfolding sampleRefusal outOfCount
-accepted-at next x c n e f = bad (beyond x.re || beyond x.im) c e
+pub accepted_at_lem : (next : ℤ) (x : ComplexSample) (c : ℤ) (n : ℕ) → sample_refusal next x c ≡ 0 → next ≡ pos n → Accepted n c
+unfolding sample_refusal out_of_count
+accepted_at_lem next x c n e f = bad (beyond x.re || beyond x.im) c e
   where
-    count : (k : ℕ) (o : Bool) → ltb lastCounter k ≡ o → (l : Bool) → lt_z (pos k) next ≡ l → ◌≡◌ {A = ℕ} (cond o 2 (cond l 10 0)) 0 → Accepted n (pos k)
+    count : (k : ℕ) (o : Bool) → ltb last_counter k ≡ o → (l : Bool) → lt_z (pos k) next ≡ l → ◌≡◌ {A = ℕ} (cond o 2 (cond l 10 0)) 0 → Accepted n (pos k)
     count k true p l q e = absurd (omega (arith, e))
     count k false p true q e = absurd (omega (arith, e))
-    count k false p false q e = record { counter = k; is = refl; below = omega (arith, ltb-false lastCounter k p); least = omega (arith, ltb-false k n (rw f at q)) }
+    count k false p false q e = record { counter = k; is = refl; below = omega (arith, ltb-false last_counter k p); least = omega (arith, ltb-false k n (rw f at q)) }
 
-    bad : (b : Bool) (c : ℤ) → ◌≡◌ {A = ℕ} (cond b 1 (cond (outOfCount c) 2 (cond (lt_z c next) 10 0))) 0 → Accepted n c
+    bad : (b : Bool) (c : ℤ) → ◌≡◌ {A = ℕ} (cond b 1 (cond (out_of_count c) 2 (cond (lt_z c next) 10 0))) 0 → Accepted n c
     bad true c e = absurd (omega (arith, e))
     bad false (negsuc k) e = absurd (omega (arith, e))
-    bad false (pos k) e = count k (ltb lastCounter k) refl (lt_z (pos k) next) refl e
+    bad false (pos k) e = count k (ltb last_counter k) refl (lt_z (pos k) next) refl e
 
 -- so many zeros are fed before it
-pub missing-most : (n k : ℕ) → n ≤ k → n + missing (pos k -ℤ pos n) ≤ k
+pub missing_most : (n k : ℕ) → n ≤ k → n + missing (pos k -ℤ pos n) ≤ k
 unfolding missing
-missing-most n k h = rw e (omega arith)
+missing_most n k h = rw e (omega arith)
   where
     e : pos k -ℤ pos n ≡ pos (k - n)
     e = same (pos k -ℤ pos n) (pos (k - n)) (omega (arith, less (pos k) (pos n)))

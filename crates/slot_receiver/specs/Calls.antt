@@ -2,16 +2,16 @@
 use Rattle.std.specs.Prelude.{ℕ, zero, suc, Bool, false, cond, ◌||◌, List, [], ◌∷◌, ℤ}
 use Rattle.std.specs.Int.Signed.{lt_z}
 use Rattle.dsp_types.specs.declared.ComplexSample.{ComplexSample}
-use Rattle.dsp_types.specs.Refusals.{accepted, badSample, badCounter, badLength, pastCounter, noSlotWaits, notFollowing, beyond, outOfCount, wrongLength}
+use Rattle.dsp_types.specs.Refusals.{accepted, bad_sample, bad_counter, bad_length, past_counter, no_slot_waits, not_following, beyond, out_of_count, wrong_length}
 use Rattle.rx_slot.specs.declared.RxSlot.{RxSlot}
-use Rattle.rx_slot.specs.Slots.{HandedSlot, validSlot, shown, filled}
+use Rattle.rx_slot.specs.Slots.{HandedSlot, valid_slot, shown, filled}
 use Rattle.slot_receiver.specs.declared.Answer.{Answer}
 use Rattle.slot_receiver.specs.declared.Answer.TheVariants.{Accepted, Refused}
 use Rattle.slot_receiver.specs.declared.TakeAnswer.{TakeAnswer}
 use Rattle.slot_receiver.specs.declared.Mode.{Mode}
 use Rattle.slot_receiver.specs.declared.Mode.TheVariants.{Idle, DlUnsynchronized, Dl, Ul}
-use Rattle.slot_receiver.specs.Receiver.{Receiver, withMode, withClock, withWaits, validCount, accept}
-use Rattle.slot_receiver.specs.Windows.{Window, acceptWindows}
+use Rattle.slot_receiver.specs.Receiver.{Receiver, with_mode, with_clock, with_waits, valid_count, accept}
+use Rattle.slot_receiver.specs.Windows.{Window, accept_windows}
 
 -- what a call answers: a refusal's number alone, that it was done, or the slot that was taken
 pub data Reply (Slot : Type 0) : Type 0 where
@@ -34,54 +34,54 @@ unless (suc n) r lent o = record { reply = refused (suc n); receiver = r; window
 -- ---- a sample
 
 -- the refusal of a sample x with the counter c, where `next` is the counter after the last accepted one
-unfoldable pub sampleRefusal : ℤ → ComplexSample → ℤ → ℕ
-sampleRefusal next x c = cond (beyond x.re || beyond x.im) badSample (cond (outOfCount c) badCounter (cond (lt_z c next) pastCounter accepted))
+unfoldable pub sample_refusal : ℤ → ComplexSample → ℤ → ℕ
+sample_refusal next x c = cond (beyond x.re || beyond x.im) bad_sample (cond (out_of_count c) bad_counter (cond (lt_z c next) past_counter accepted))
 
 unfoldable pub sampled : Receiver → ComplexSample → ℤ → Outcome
-sampled r x c = record { reply = done; receiver = accept r x c; windows = acceptWindows r x c; lent = [] }
+sampled r x c = record { reply = done; receiver = accept r x c; windows = accept_windows r x c; lent = [] }
 
-unfoldable pub sampleOutcome : Receiver → ComplexSample → ℤ → Outcome
-sampleOutcome r x c = unless (sampleRefusal (validCount r.next) x c) r [] (sampled r x c)
+unfoldable pub sample_outcome : Receiver → ComplexSample → ℤ → Outcome
+sample_outcome r x c = unless (sample_refusal (valid_count r.next) x c) r [] (sampled r x c)
 
 -- ---- a take
 
-unfoldable pub takeRefusal : {A : Type 0} → List A → List A → List A → Bool → ℕ
-takeRefusal slot first second waits =
-    cond (wrongLength 510 slot || (wrongLength 254 first || wrongLength 254 second)) badLength (cond waits accepted noSlotWaits)
+unfoldable pub take_refusal : {A : Type 0} → List A → List A → List A → Bool → ℕ
+take_refusal slot first second waits =
+    cond (wrong_length 510 slot || (wrong_length 254 first || wrong_length 254 second)) bad_length (cond waits accepted no_slot_waits)
 
 unfoldable pub taken : Receiver → HandedSlot → Outcome
-taken r h = record { reply = took h; receiver = withWaits r false; windows = []; lent = filled h }
+taken r h = record { reply = took h; receiver = with_waits r false; windows = []; lent = filled h }
 
-unfoldable pub takeOutcome : Receiver → (slot subslot1 subslot2 : List ℕ) → Outcome
-takeOutcome r slot subslot1 subslot2 =
-    unless (takeRefusal slot subslot1 subslot2 r.waits) r (slot ∷ subslot1 ∷ subslot2 ∷ []) (taken r (validSlot r.slot))
+unfoldable pub take_outcome : Receiver → (slot subslot1 subslot2 : List ℕ) → Outcome
+take_outcome r slot subslot1 subslot2 =
+    unless (take_refusal slot subslot1 subslot2 r.waits) r (slot ∷ subslot1 ∷ subslot2 ∷ []) (taken r (valid_slot r.slot))
 
 -- ---- an order to follow: `sync_to_demodulator`
 
-unfoldable pub followRefusal : Mode → ℕ
-followRefusal Idle = accepted
-followRefusal DlUnsynchronized = notFollowing
-followRefusal Dl = notFollowing
-followRefusal Ul = accepted
+unfoldable pub follow_refusal : Mode → ℕ
+follow_refusal Idle = accepted
+follow_refusal DlUnsynchronized = not_following
+follow_refusal Dl = not_following
+follow_refusal Ul = accepted
 
 -- an idle receiver takes the other's last slot number too
-unfoldable pub slotWhen : Mode → ℕ → ℕ → ℕ
-slotWhen Idle other own = other
-slotWhen DlUnsynchronized other own = own
-slotWhen Dl other own = own
-slotWhen Ul other own = own
+unfoldable pub slot_when : Mode → ℕ → ℕ → ℕ
+slot_when Idle other own = other
+slot_when DlUnsynchronized other own = own
+slot_when Dl other own = own
+slot_when Ul other own = own
 
 -- r, told to follow a receiver in that mode: idle while the other searches, uplink once it is locked
 unfoldable pub following : Mode → Receiver → Receiver → Receiver
 following Idle r other = r
-following DlUnsynchronized r other = withMode r Idle
+following DlUnsynchronized r other = with_mode r Idle
 following Dl r other =
-    withMode
-    (withClock r
+    with_mode
+    (with_clock r
     (record {
-      referenceTime = other.clock.referenceTime;
-      slotReadyTime = r.clock.slotReadyTime;
-      currentSlot = slotWhen r.mode other.slot.time r.clock.currentSlot;
+      reference_time = other.clock.reference_time;
+      slot_ready_time = r.clock.slot_ready_time;
+      current_slot = slot_when r.mode other.slot.time r.clock.current_slot;
     }))
     Ul
 following Ul r other = r
@@ -89,21 +89,21 @@ following Ul r other = r
 unfoldable pub followed : Receiver → Receiver → Outcome
 followed r other = record { reply = done; receiver = following other.mode r other; windows = []; lent = [] }
 
-unfoldable pub followOutcome : Receiver → Receiver → Outcome
-followOutcome r other = unless (followRefusal r.mode) r [] (followed r other)
+unfoldable pub follow_outcome : Receiver → Receiver → Outcome
+follow_outcome r other = unless (follow_refusal r.mode) r [] (followed r other)
 
 -- ---- 01's number and values of each case of an answer's enum: no two answers tell the same
 
-unfoldable pub replyOf : Answer → Reply HandedSlot
-replyOf Accepted = done
-replyOf (Refused n) = refused n
+unfoldable pub reply_of : Answer → Reply HandedSlot
+reply_of Accepted = done
+reply_of (Refused n) = refused n
 
-unfoldable pub takeReplyOf : TakeAnswer → Reply RxSlot
-takeReplyOf (TakeAnswer.Slot s) = took s
-takeReplyOf (TakeAnswer.Refused n) = refused n
+unfoldable pub take_reply_of : TakeAnswer → Reply RxSlot
+take_reply_of (TakeAnswer.Slot s) = took s
+take_reply_of (TakeAnswer.Refused n) = refused n
 
 -- a slot in numbers: of a view its length, since its bits are the lent bytes
-unfoldable pub inNumbers : Reply HandedSlot → Reply RxSlot
-inNumbers (refused n) = refused n
-inNumbers done = done
-inNumbers (took h) = took (shown h)
+unfoldable pub in_numbers : Reply HandedSlot → Reply RxSlot
+in_numbers (refused n) = refused n
+in_numbers done = done
+in_numbers (took h) = took (shown h)

@@ -1,37 +1,37 @@
 -- The receiver after demodulator.rs: its state, and what each stage makes of it (01, "Times", "The receiver"). Definitions only.
--- The stages bear the names of the source: `process_sample` is `processSample`, and so on.
+-- The stages bear the names of the source's functions, `process_sample` and so on.
 use Rattle.std.specs.Prelude.{ℕ, zero, suc, ◌+◌, ◌-◌, ◌*◌, ◌%◌, ◌^◌, min, Bool, true, false, cond, ◌||◌, leb, ℤ, pos, negsuc, neg_ℤ, ◌+ℤ◌, ◌-ℤ◌, ◌*ℤ◌, Float}
 use Rattle.std.specs.Int.Signed.{lt_z, mag, quot_z}
 use Rattle.dsp_types.specs.declared.ComplexSample.{ComplexSample}
-use Rattle.dsp_types.specs.Samples.{zeroF, silence}
+use Rattle.dsp_types.specs.Samples.{zero_f, silence}
 use Rattle.dsp_types.specs.Refusals.{counters}
-use Rattle.dsp_types.specs.Times.{slots, slot_of, divEuclid}
-use Rattle.dsp_types.specs.Ints.{eqZ}
-use Rattle.timing.specs.Tracking.{averagedOf, settled_of, movedOf}
+use Rattle.dsp_types.specs.Times.{slots, slot_of, div_euclid}
+use Rattle.dsp_types.specs.Ints.{eq_z}
+use Rattle.timing.specs.Tracking.{averaged_of, settled_of, moved_of}
 use Rattle.burst_finder.specs.declared.SlotType.TheVariants as SlotType
-use Rattle.burst_finder.specs.Search.{findSync}
-use Rattle.burst_finder.specs.Slots.{mostErrors}
-use Rattle.listener.specs.Signal.{Signal, unheard, hear, bits_of, slotTiming, windowBits}
+use Rattle.burst_finder.specs.Search.{find_sync}
+use Rattle.burst_finder.specs.Slots.{most_errors}
+use Rattle.listener.specs.Signal.{Signal, unheard, hear, bits_of, slot_timing, window_bits}
 use Rattle.rx_slot.specs.Views.{BurstView, no_view, checked}
-use Rattle.rx_slot.specs.Slots.{HandedSlot, withViews, no_slot}
+use Rattle.rx_slot.specs.Slots.{HandedSlot, with_views, no_slot}
 use Rattle.slot_receiver.specs.declared.Mode.{Mode}
 use Rattle.slot_receiver.specs.declared.Mode.TheVariants.{Idle, DlUnsynchronized, Dl, Ul}
 
 -- the slot timing: when hyperframe number 0 began and when the current slot's window closes, both in samples with the filter's
 -- delay taken off, and the current slot's number
 pub record Clock : Type 0 where
-  pub referenceTime : ℤ
-  pub slotReadyTime : ℤ
-  pub currentSlot : ℕ
+  pub reference_time : ℤ
+  pub slot_ready_time : ℤ
+  pub current_slot : ℕ
 
 -- how good the lock is: the averaged timing error, and handed slots in a row without a training sequence
 pub record Lock : Type 0 where
-  pub timingError : Float
+  pub timing_error : Float
   pub misses : ℕ
 
 -- so many misses in a row (01, "The receiver")
-abbrev pub lostAt : ℕ
-lostAt = 100
+abbrev pub lost_at : ℕ
+lost_at = 100
 
 pub record Receiver : Type 0 where
   pub mode : Mode
@@ -46,44 +46,44 @@ pub record Receiver : Type 0 where
 
 -- ---- a receiver with one part anew
 
-unfoldable pub withMode : Receiver → Mode → Receiver
-withMode r m = record { mode = m; clock = r.clock; lock = r.lock; waits = r.waits; slot = r.slot; next = r.next; signal = r.signal }
+unfoldable pub with_mode : Receiver → Mode → Receiver
+with_mode r m = record { mode = m; clock = r.clock; lock = r.lock; waits = r.waits; slot = r.slot; next = r.next; signal = r.signal }
 
-unfoldable pub withClock : Receiver → Clock → Receiver
-withClock r c = record { mode = r.mode; clock = c; lock = r.lock; waits = r.waits; slot = r.slot; next = r.next; signal = r.signal }
+unfoldable pub with_clock : Receiver → Clock → Receiver
+with_clock r c = record { mode = r.mode; clock = c; lock = r.lock; waits = r.waits; slot = r.slot; next = r.next; signal = r.signal }
 
-unfoldable pub withLock : Receiver → Lock → Receiver
-withLock r l = record { mode = r.mode; clock = r.clock; lock = l; waits = r.waits; slot = r.slot; next = r.next; signal = r.signal }
+unfoldable pub with_lock : Receiver → Lock → Receiver
+with_lock r l = record { mode = r.mode; clock = r.clock; lock = l; waits = r.waits; slot = r.slot; next = r.next; signal = r.signal }
 
-unfoldable pub withWaits : Receiver → Bool → Receiver
-withWaits r b = record { mode = r.mode; clock = r.clock; lock = r.lock; waits = b; slot = r.slot; next = r.next; signal = r.signal }
+unfoldable pub with_waits : Receiver → Bool → Receiver
+with_waits r b = record { mode = r.mode; clock = r.clock; lock = r.lock; waits = b; slot = r.slot; next = r.next; signal = r.signal }
 
-unfoldable pub withSlot : Receiver → HandedSlot → Receiver
-withSlot r h = record { mode = r.mode; clock = r.clock; lock = r.lock; waits = r.waits; slot = h; next = r.next; signal = r.signal }
+unfoldable pub with_slot : Receiver → HandedSlot → Receiver
+with_slot r h = record { mode = r.mode; clock = r.clock; lock = r.lock; waits = r.waits; slot = h; next = r.next; signal = r.signal }
 
 unfoldable pub with_next : Receiver → ℤ → Receiver
 with_next r c = record { mode = r.mode; clock = r.clock; lock = r.lock; waits = r.waits; slot = r.slot; next = c; signal = r.signal }
 
-unfoldable pub withSignal : Receiver → Signal → Receiver
-withSignal r s = record { mode = r.mode; clock = r.clock; lock = r.lock; waits = r.waits; slot = r.slot; next = r.next; signal = s }
+unfoldable pub with_signal : Receiver → Signal → Receiver
+with_signal r s = record { mode = r.mode; clock = r.clock; lock = r.lock; waits = r.waits; slot = r.slot; next = r.next; signal = s }
 
 -- ---- slot timing
 
 -- from a slot's begin to the close of its window: `slot_ready_from_begin`
-unfoldable pub slotReadyFromBegin : Mode → ℤ
-slotReadyFromBegin Idle = pos 1018
-slotReadyFromBegin DlUnsynchronized = pos 1018
-slotReadyFromBegin Dl = pos 1018
-slotReadyFromBegin Ul = pos 1020
+unfoldable pub slot_ready_from_begin : Mode → ℤ
+slot_ready_from_begin Idle = pos 1018
+slot_ready_from_begin DlUnsynchronized = pos 1018
+slot_ready_from_begin Dl = pos 1018
+slot_ready_from_begin Ul = pos 1020
 
 -- `set_slot`: s is the current slot; its window closes as reference time and mode say
-unfoldable pub setSlot : Mode → ℤ → ℕ → Clock
-setSlot m reference s =
-    record { referenceTime = reference; slotReadyTime = reference +ℤ pos (s * 1020) +ℤ slotReadyFromBegin m; currentSlot = s }
+unfoldable pub set_slot : Mode → ℤ → ℕ → Clock
+set_slot m reference s =
+    record { reference_time = reference; slot_ready_time = reference +ℤ pos (s * 1020) +ℤ slot_ready_from_begin m; current_slot = s }
 
 -- `add_slots`
-unfoldable pub addSlots : Mode → Clock → ℤ → Clock
-addSlots m c k = setSlot m c.referenceTime (slot_of (pos c.currentSlot +ℤ k))
+unfoldable pub add_slots : Mode → Clock → ℤ → Clock
+add_slots m c k = set_slot m c.reference_time (slot_of (pos c.current_slot +ℤ k))
 
 -- ---- a new receiver
 
@@ -91,8 +91,8 @@ unfoldable pub new : Mode → Receiver
 new m =
     record {
       mode = m;
-      clock = setSlot m (pos 0) 0;
-      lock = record { timingError = zeroF; misses = 0 };
+      clock = set_slot m (pos 0) 0;
+      lock = record { timing_error = zero_f; misses = 0 };
       waits = false;
       slot = no_slot;
       next = pos 0;
@@ -103,182 +103,182 @@ new m =
 
 -- a search window empties the view of the full slot, also of one that waits
 unfoldable pub emptied : HandedSlot → ℕ → HandedSlot
-emptied h time = withViews h time no_view h.subslot1 h.subslot2
+emptied h time = with_views h time no_view h.subslot1 h.subslot2
 
 -- the reference time at a find with the sequence's first bit at 216 + place: one slot before the burst found began, by the source's
 -- own comment "so that this burst will get demodulated in slot number 0". The catch-up skips that slot: 01 has the burst as slot 1
-unfoldable pub foundTime : ℤ → ℕ → ℤ
-foundTime ready place = ready -ℤ pos 1018 +ℤ quot_z (pos (place + 2) -ℤ pos 510) (pos 2) *ℤ pos 4
+unfoldable pub found_time : ℤ → ℕ → ℤ
+found_time ready place = ready -ℤ pos 1018 +ℤ quot_z (pos (place + 2) -ℤ pos 510) (pos 2) *ℤ pos 4
 
 -- DlUnsynchronized, the synchronization sequence found: the step to the next slot makes the current one 0
 unfoldable pub found : Receiver → ℕ → Receiver
 found r place =
-    withMode
-    (withClock
-    (withLock
-    (withSlot r (emptied r.slot 0))
-    (record { timingError = averagedOf zeroF (slotTiming r.signal); misses = 0 }))
-    (setSlot DlUnsynchronized (foundTime r.clock.slotReadyTime place) (slot_of (negsuc 0))))
+    with_mode
+    (with_clock
+    (with_lock
+    (with_slot r (emptied r.slot 0))
+    (record { timing_error = averaged_of zero_f (slot_timing r.signal); misses = 0 }))
+    (set_slot DlUnsynchronized (found_time r.clock.slot_ready_time place) (slot_of (negsuc 0))))
     Dl
 
-unfoldable pub notFoundYet : Receiver → Receiver
-notFoundYet r = withSlot r (emptied r.slot r.slot.time)
+unfoldable pub not_found_yet : Receiver → Receiver
+not_found_yet r = with_slot r (emptied r.slot r.slot.time)
 
-unfoldable pub searchWindow : Bool → ℕ → Receiver → Receiver
-searchWindow true place r = found r place
-searchWindow false place r = notFoundYet r
+unfoldable pub search_window : Bool → ℕ → Receiver → Receiver
+search_window true place r = found r place
+search_window false place r = not_found_yet r
 
 -- a slot is handed over: it waits to be taken
-unfoldable pub handOver : Receiver → HandedSlot → Receiver
-handOver r h = withWaits (withSlot r h) true
+unfoldable pub hand_over : Receiver → HandedSlot → Receiver
+hand_over r h = with_waits (with_slot r h) true
 
 -- Dl: the slot is handed over with its number; the hundredth miss in a row returns to search
-unfoldable pub lockAfter : Lock → Float → ℕ → Lock
-lockAfter l timing zero = record { timingError = l.timingError; misses = suc l.misses }
-lockAfter l timing (suc type) = record { timingError = averagedOf l.timingError timing; misses = 0 }
+unfoldable pub lock_after : Lock → Float → ℕ → Lock
+lock_after l timing zero = record { timing_error = l.timing_error; misses = suc l.misses }
+lock_after l timing (suc type) = record { timing_error = averaged_of l.timing_error timing; misses = 0 }
 
-unfoldable pub modeAfter : ℕ → Mode
-modeAfter misses = cond (leb lostAt misses) DlUnsynchronized Dl
+unfoldable pub mode_after : ℕ → Mode
+mode_after misses = cond (leb lost_at misses) DlUnsynchronized Dl
 
-unfoldable pub downlinkSlot : Receiver → ℤ → BurstView → HandedSlot
-downlinkSlot r c v =
-    record { time = r.clock.currentSlot; closingCounter = c; full = v; subslot1 = r.slot.subslot1; subslot2 = r.slot.subslot2 }
+unfoldable pub downlink_slot : Receiver → ℤ → BurstView → HandedSlot
+downlink_slot r c v =
+    record { time = r.clock.current_slot; closing_counter = c; full = v; subslot1 = r.slot.subslot1; subslot2 = r.slot.subslot2 }
 
-unfoldable pub downlinkWindow : BurstView → Lock → Receiver → ℤ → Receiver
-downlinkWindow v l r c = handOver (withMode (withLock r l) (modeAfter l.misses)) (downlinkSlot r c v)
+unfoldable pub downlink_window : BurstView → Lock → Receiver → ℤ → Receiver
+downlink_window v l r c = hand_over (with_mode (with_lock r l) (mode_after l.misses)) (downlink_slot r c v)
 
 -- Ul: slot numbers are 2 less, wrapping; a full window and one for each half
-unfoldable pub uplinkSlot : ℕ → ℤ → Signal → HandedSlot
-uplinkSlot current c s =
+unfoldable pub uplink_slot : ℕ → ℤ → Signal → HandedSlot
+uplink_slot current c s =
     record {
       time = slot_of (pos current -ℤ pos 2);
-      closingCounter = c;
-      full = checked SlotType.UlFull (windowBits s);
+      closing_counter = c;
+      full = checked SlotType.UlFull (window_bits s);
       subslot1 = checked SlotType.UlSub (bits_of s 1024 128);
       subslot2 = checked SlotType.UlSub (bits_of s 514 128);
     }
 
-unfoldable pub processPastSamples : Mode → Receiver → ℤ → Receiver
-processPastSamples Idle r c = r
-processPastSamples DlUnsynchronized r c = searchWindow (leb (findSync (windowBits r.signal)).dist mostErrors) (findSync (windowBits r.signal)).pos r
-processPastSamples Dl r c =
-    downlinkWindow (checked SlotType.Dl (windowBits r.signal))
-    (lockAfter r.lock (slotTiming r.signal) (checked SlotType.Dl (windowBits r.signal)).type) r c
-processPastSamples Ul r c = handOver r (uplinkSlot r.clock.currentSlot c r.signal)
+unfoldable pub process_past_samples : Mode → Receiver → ℤ → Receiver
+process_past_samples Idle r c = r
+process_past_samples DlUnsynchronized r c = search_window (leb (find_sync (window_bits r.signal)).dist most_errors) (find_sync (window_bits r.signal)).pos r
+process_past_samples Dl r c =
+    downlink_window (checked SlotType.Dl (window_bits r.signal))
+    (lock_after r.lock (slot_timing r.signal) (checked SlotType.Dl (window_bits r.signal)).type) r c
+process_past_samples Ul r c = hand_over r (uplink_slot r.clock.current_slot c r.signal)
 
 -- ---- slot timing after a window
 
 -- tracking: an averaged error above 0.5 makes the reference time one sample later, one below −0.5 one sample sooner
 unfoldable pub track : Receiver → Receiver
 track r =
-    withLock
-    (withClock r
+    with_lock
+    (with_clock r
     (record {
-      referenceTime = r.clock.referenceTime +ℤ movedOf r.lock.timingError;
-      slotReadyTime = r.clock.slotReadyTime;
-      currentSlot = r.clock.currentSlot;
+      reference_time = r.clock.reference_time +ℤ moved_of r.lock.timing_error;
+      slot_ready_time = r.clock.slot_ready_time;
+      current_slot = r.clock.current_slot;
     }))
-    (record { timingError = settled_of r.lock.timingError; misses = r.lock.misses })
+    (record { timing_error = settled_of r.lock.timing_error; misses = r.lock.misses })
 
 -- 400 samples on
-unfoldable pub searchOn : Clock → Clock
-searchOn c = record { referenceTime = c.referenceTime; slotReadyTime = c.slotReadyTime +ℤ pos 400; currentSlot = c.currentSlot }
+unfoldable pub search_on : Clock → Clock
+search_on c = record { reference_time = c.reference_time; slot_ready_time = c.slot_ready_time +ℤ pos 400; current_slot = c.current_slot }
 
-unfoldable pub nextSlot : Receiver → Receiver
-nextSlot r = withClock r (addSlots r.mode r.clock (pos 1))
+unfoldable pub next_slot : Receiver → Receiver
+next_slot r = with_clock r (add_slots r.mode r.clock (pos 1))
 
 unfoldable pub schedule : Mode → Receiver → Receiver
 schedule Idle r = r
-schedule DlUnsynchronized r = withClock r (searchOn r.clock)
-schedule Dl r = nextSlot (track r)
-schedule Ul r = nextSlot r
+schedule DlUnsynchronized r = with_clock r (search_on r.clock)
+schedule Dl r = next_slot (track r)
+schedule Ul r = next_slot r
 
 unfoldable pub processed : Receiver → ℤ → Receiver
-processed r c = processPastSamples r.mode r c
+processed r c = process_past_samples r.mode r c
 
 -- a window closes at the counter c
-unfoldable pub closeWindow : Receiver → ℤ → Receiver
-closeWindow r c = schedule (processed r c).mode (processed r c)
+unfoldable pub close_window : Receiver → ℤ → Receiver
+close_window r c = schedule (processed r c).mode (processed r c)
 
--- ---- what a sample reads of the stored numbers: one that no call could have left counts as a valid one. (`reachable-valid` of crate
+-- ---- what a sample reads of the stored numbers: one that no call could have left counts as a valid one. (`reachable_valid` of crate
 -- account: nothing that calls leave is changed by it.)
 
 -- how far from 0 a reference time and a ready time may be, and the last counter that may be expected, which is one after the last
-abbrev pub farReference : ℕ
-farReference = 2 ^ 39
+abbrev pub far_reference : ℕ
+far_reference = 2 ^ 39
 
-abbrev pub farReady : ℕ
-farReady = 2 ^ 40 - 1
+abbrev pub far_ready : ℕ
+far_ready = 2 ^ 40 - 1
 
-abbrev pub lastNext : ℕ
-lastNext = counters
+abbrev pub last_next : ℕ
+last_next = counters
 
 -- a time further from 0 than this counts as 0. `mag` is n both for n and for −1 − n
-unfoldable pub validTime : ℕ → ℤ → ℤ
-validTime most z = cond (leb (mag z) most) z (pos 0)
+unfoldable pub valid_time : ℕ → ℤ → ℤ
+valid_time most z = cond (leb (mag z) most) z (pos 0)
 
 -- slot numbers count modulo their range
-unfoldable pub validClock : Clock → Clock
-validClock c =
+unfoldable pub valid_clock : Clock → Clock
+valid_clock c =
     record {
-      referenceTime = validTime farReference c.referenceTime;
-      slotReadyTime = validTime farReady c.slotReadyTime;
-      currentSlot = c.currentSlot % slots;
+      reference_time = valid_time far_reference c.reference_time;
+      slot_ready_time = valid_time far_ready c.slot_ready_time;
+      current_slot = c.current_slot % slots;
     }
 
 -- more misses than lose the lock count as so many
-unfoldable pub validLock : Lock → Lock
-validLock l = record { timingError = l.timingError; misses = min lostAt l.misses }
+unfoldable pub valid_lock : Lock → Lock
+valid_lock l = record { timing_error = l.timing_error; misses = min lost_at l.misses }
 
 unfoldable pub valid : Receiver → Receiver
-valid r = withLock (withClock r (validClock r.clock)) (validLock r.lock)
+valid r = with_lock (with_clock r (valid_clock r.clock)) (valid_lock r.lock)
 
 -- a counter below 0 or above the last counts as 0
-unfoldable pub validCount : ℤ → ℤ
-validCount z = cond (lt_z z (pos 0) || lt_z (pos lastNext) z) (pos 0) z
+unfoldable pub valid_count : ℤ → ℤ
+valid_count z = cond (lt_z z (pos 0) || lt_z (pos last_next) z) (pos 0) z
 
 -- ---- `process_sample`
 
 unfoldable pub listen : Receiver → ComplexSample → Receiver
-listen r x = withSignal r (hear r.signal x)
+listen r x = with_signal r (hear r.signal x)
 
 -- the counter less the filter's delay, less the ready time
 unfoldable pub tdiff : Receiver → ℤ → ℤ
-tdiff r c = c -ℤ pos 16 -ℤ r.clock.slotReadyTime
+tdiff r c = c -ℤ pos 16 -ℤ r.clock.slot_ready_time
 
 -- not within −2,040 to 0
 unfoldable pub far : ℤ → Bool
 far t = lt_z t (negsuc 2039) || lt_z (pos 0) t
 
 -- the slots from the ready time to the counter, rounded up
-unfoldable pub slotsToSkip : ℤ → ℤ
-slotsToSkip t = neg_ℤ (divEuclid (neg_ℤ t) 1020)
+unfoldable pub slots_to_skip : ℤ → ℤ
+slots_to_skip t = neg_ℤ (div_euclid (neg_ℤ t) 1020)
 
-unfoldable pub skipIf : Bool → ℤ → Receiver → Receiver
-skipIf true t r = withClock r (addSlots r.mode r.clock (slotsToSkip t))
-skipIf false t r = r
+unfoldable pub skip_if : Bool → ℤ → Receiver → Receiver
+skip_if true t r = with_clock r (add_slots r.mode r.clock (slots_to_skip t))
+skip_if false t r = r
 
 -- the slots that the counter has passed are skipped
 unfoldable pub skipped : Receiver → ℤ → Receiver
-skipped r c = skipIf (far (tdiff r c)) (tdiff r c) r
+skipped r c = skip_if (far (tdiff r c)) (tdiff r c) r
 
 -- whether a window closes at the counter c
 unfoldable pub closes : Receiver → ℤ → Bool
-closes r c = eqZ (c -ℤ pos 16) r.clock.slotReadyTime
+closes r c = eq_z (c -ℤ pos 16) r.clock.slot_ready_time
 
-unfoldable pub closeIf : Bool → Receiver → ℤ → Receiver
-closeIf true r c = closeWindow r c
-closeIf false r c = r
+unfoldable pub close_if : Bool → Receiver → ℤ → Receiver
+close_if true r c = close_window r c
+close_if false r c = r
 
 -- a receiver whose newest sample has the counter c, up to the close of a window, and after it
 unfoldable pub ready : Receiver → ℤ → Receiver
 ready r c = skipped (valid r) c
 
 unfoldable pub arrive : Receiver → ℤ → Receiver
-arrive r c = closeIf (closes (ready r c) c) (ready r c) c
+arrive r c = close_if (closes (ready r c) c) (ready r c) c
 
-unfoldable pub processSample : Receiver → ComplexSample → ℤ → Receiver
-processSample r x c = arrive (listen r x) c
+unfoldable pub process_sample : Receiver → ComplexSample → ℤ → Receiver
+process_sample r x c = arrive (listen r x) c
 
 -- ---- `sample`
 
@@ -288,14 +288,14 @@ missing (pos n) = min n 1020
 missing (negsuc n) = 0
 
 -- k zeros, under the counters just before c
-unfoldable pub feedZeros : ℕ → Receiver → ℤ → Receiver
-feedZeros zero r c = r
-feedZeros (suc k) r c = feedZeros k (processSample r silence (c -ℤ pos (suc k))) c
+unfoldable pub feed_zeros : ℕ → Receiver → ℤ → Receiver
+feed_zeros zero r c = r
+feed_zeros (suc k) r c = feed_zeros k (process_sample r silence (c -ℤ pos (suc k))) c
 
 -- the zeros that stand before a sample with the counter c
-unfoldable pub zerosBefore : Receiver → ℤ → ℕ
-zerosBefore r c = missing (c -ℤ validCount r.next)
+unfoldable pub zeros_before : Receiver → ℤ → ℕ
+zeros_before r c = missing (c -ℤ valid_count r.next)
 
 -- an accepted sample
 unfoldable pub accept : Receiver → ComplexSample → ℤ → Receiver
-accept r x c = with_next (processSample (feedZeros (zerosBefore r c) r c) x c) (c +ℤ pos 1)
+accept r x c = with_next (process_sample (feed_zeros (zeros_before r c) r c) x c) (c +ℤ pos 1)

@@ -2,10 +2,10 @@
 ghost use Rattle.std.specs.Prelude.{◌≡◌, List, ℤ};
 ghost use Rattle.dsp_types.specs.declared.ComplexSample.{ComplexSample};
 ghost use Rattle.listener.specs.Signal.{Signal};
-ghost use Rattle.listener.specs.View.{signalFrom};
-ghost use Rattle.slot_receiver.specs.Receiver.{validCount, skipped, closes, closeIf, arrive};
-ghost use Rattle.slot_receiver.specs.Windows.{handsOver, windowIf, windowAt};
-ghost use Rattle.slot_receiver.specs.View.{clockOf, receiverFrom};
+ghost use Rattle.listener.specs.View.{signal_from};
+ghost use Rattle.slot_receiver.specs.Receiver.{valid_count, skipped, closes, close_if, arrive};
+ghost use Rattle.slot_receiver.specs.Windows.{hands_over, window_if, window_at};
+ghost use Rattle.slot_receiver.specs.View.{clock_of, receiver_from};
 ghost use Rattle.slot_receiver.specs.Bounds.{Timed, Counter};
 
 use crate::SlotReceiver;
@@ -22,8 +22,8 @@ pub struct Arrived {
 
 impl SlotReceiver {
     fn skipped(self, counter: SampleCount) -> SlotReceiver
-        requires { Timed (clockOf self) self.slots_since_last_valid_burst × Counter counter.0 }
-        ensures { (next : ℤ) (s : Signal) → receiverFrom result next s ≡ skipped (receiverFrom self next s) counter.0 }
+        requires { Timed (clock_of self) self.slots_since_last_valid_burst × Counter counter.0 }
+        ensures { (next : ℤ) (s : Signal) → receiver_from result next s ≡ skipped (receiver_from self next s) counter.0 }
     {
         let t = tdiff(counter, self.slot_ready_time);
         self.skip_slots(t)
@@ -38,9 +38,9 @@ impl SlotReceiver {
         index: usize,
         counter: SampleCount,
     ) -> Arrived
-        requires { Timed (clockOf self) self.slots_since_last_valid_burst × Counter counter.0 }
-        ensures handed { (next : ℤ) (inputs : List ComplexSample) → let a = receiverFrom self next (signalFrom inputs re.now im.now abs.now index) in result.handed ≡ handsOver (windowIf (closes a counter.0) a counter.0) }
-        ensures slots { (next : ℤ) (inputs : List ComplexSample) → let a = receiverFrom self next (signalFrom inputs re.now im.now abs.now index) in receiverFrom result.slots next (signalFrom inputs re.now im.now abs.now index) ≡ closeIf (closes a counter.0) a counter.0 }
+        requires { Timed (clock_of self) self.slots_since_last_valid_burst × Counter counter.0 }
+        ensures handed { (next : ℤ) (inputs : List ComplexSample) → let a = receiver_from self next (signal_from inputs re.now im.now abs.now index) in result.handed ≡ hands_over (window_if (closes a counter.0) a counter.0) }
+        ensures slots { (next : ℤ) (inputs : List ComplexSample) → let a = receiver_from self next (signal_from inputs re.now im.now abs.now index) in receiver_from result.slots next (signal_from inputs re.now im.now abs.now index) ≡ close_if (closes a counter.0) a counter.0 }
     {
         if counter.minus(16).is_same(self.slot_ready_time) {
             let handed = (self.mode == 2) | (self.mode == 3);
@@ -62,8 +62,8 @@ impl SlotReceiver {
         index: usize,
         counter: SampleCount,
     ) -> Arrived
-        ensures handed { (next : ℤ) (inputs : List ComplexSample) → result.handed ≡ handsOver (windowAt (receiverFrom self next (signalFrom inputs re.now im.now abs.now index)) (validCount counter.0)) }
-        ensures slots { (next : ℤ) (inputs : List ComplexSample) → receiverFrom result.slots next (signalFrom inputs re.now im.now abs.now index) ≡ arrive (receiverFrom self next (signalFrom inputs re.now im.now abs.now index)) (validCount counter.0) }
+        ensures handed { (next : ℤ) (inputs : List ComplexSample) → result.handed ≡ hands_over (window_at (receiver_from self next (signal_from inputs re.now im.now abs.now index)) (valid_count counter.0)) }
+        ensures slots { (next : ℤ) (inputs : List ComplexSample) → receiver_from result.slots next (signal_from inputs re.now im.now abs.now index) ≡ arrive (receiver_from self next (signal_from inputs re.now im.now abs.now index)) (valid_count counter.0) }
     {
         let at = valid_count(counter);
         self.valid()

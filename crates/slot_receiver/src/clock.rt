@@ -3,8 +3,8 @@ ghost use Rattle.std.specs.Prelude.{◌≡◌, ◌-◌, ◌*◌, ◌^◌, ◌<�
 ghost use Rattle.dsp_types.specs.Refusals.{counters};
 ghost use Rattle.dsp_types.specs.Times.{slots};
 ghost use Rattle.listener.specs.Signal.{Signal};
-ghost use Rattle.slot_receiver.specs.Receiver.{slotReadyFromBegin, setSlot, addSlots, withClock, far, slotsToSkip, skipIf};
-ghost use Rattle.slot_receiver.specs.View.{mode_of, clockOf, receiverFrom};
+ghost use Rattle.slot_receiver.specs.Receiver.{slot_ready_from_begin, set_slot, add_slots, with_clock, far, slots_to_skip, skip_if};
+ghost use Rattle.slot_receiver.specs.View.{mode_of, clock_of, receiver_from};
 ghost use Rattle.slot_receiver.specs.Bounds.{Within};
 
 use crate::SlotReceiver;
@@ -19,7 +19,7 @@ fn slots_long(slot: TdmaTime) -> i64
 
 // Samples from the beginning of a slot to where it is ready to be demodulated.
 fn slot_ready_from_begin(mode: u8) -> i64
-    ensures { result ≡ slotReadyFromBegin (mode_of mode) }
+    ensures { result ≡ slot_ready_from_begin (mode_of mode) }
 {
     if mode == 3 { 1020 } else { 1018 }
 }
@@ -27,7 +27,7 @@ fn slot_ready_from_begin(mode: u8) -> i64
 // When the slot with this number is ready.
 pub(crate) fn ready_time(mode: u8, reference: SampleCount, slot: TdmaTime) -> SampleCount
     requires { Within (2 ^ 40) reference.0 × (slot.0 < slots) }
-    ensures { result.0 ≡ reference.0 +ℤ pos (slot.0 * 1020) +ℤ slotReadyFromBegin (mode_of mode) }
+    ensures { result.0 ≡ reference.0 +ℤ pos (slot.0 * 1020) +ℤ slot_ready_from_begin (mode_of mode) }
 {
     reference
         .plus(slots_long(slot))
@@ -52,7 +52,7 @@ pub(crate) fn is_far(t: i64) -> bool
 // How many slots the counter is past the ready time, rounded up.
 fn slots_to_skip(t: i64) -> i32
     requires { Within (2 ^ 41 - 2 ^ 34) t }
-    ensures { result ≡ slotsToSkip t }
+    ensures { result ≡ slots_to_skip t }
 {
     (0 - dsp_types::div_euclid(0 - t, 1020)) as i32
 }
@@ -60,7 +60,7 @@ fn slots_to_skip(t: i64) -> i32
 impl SlotReceiver {
     pub(crate) fn set_slot(self, slot: TdmaTime) -> SlotReceiver
         requires { Within (2 ^ 40) self.reference_time.0 × (slot.0 < slots) }
-        ensures { (next : ℤ) (s : Signal) → receiverFrom result next s ≡ withClock (receiverFrom self next s) (setSlot (mode_of self.mode) self.reference_time.0 slot.0) }
+        ensures { (next : ℤ) (s : Signal) → receiver_from result next s ≡ with_clock (receiver_from self next s) (set_slot (mode_of self.mode) self.reference_time.0 slot.0) }
     {
         let ready = ready_time(self.mode, self.reference_time, slot);
         let mut d = self;
@@ -71,7 +71,7 @@ impl SlotReceiver {
 
     pub(crate) fn add_slots(self, count: i32) -> SlotReceiver
         requires { Within (2 ^ 40) self.reference_time.0 × (self.current_slot.0 < slots) }
-        ensures { (next : ℤ) (s : Signal) → receiverFrom result next s ≡ withClock (receiverFrom self next s) (addSlots (mode_of self.mode) (clockOf self) count) }
+        ensures { (next : ℤ) (s : Signal) → receiver_from result next s ≡ with_clock (receiver_from self next s) (add_slots (mode_of self.mode) (clock_of self) count) }
     {
         let slot = self.current_slot.add_timeslots(count);
         self.set_slot(slot)
@@ -80,7 +80,7 @@ impl SlotReceiver {
     // Finds the next slot that is not past where the ready time is far off.
     pub(crate) fn skip_slots(self, t: i64) -> SlotReceiver
         requires { Within (2 ^ 40) self.reference_time.0 × (self.current_slot.0 < slots) × Within (2 ^ 41 - 2 ^ 34) t }
-        ensures { (next : ℤ) (s : Signal) → receiverFrom result next s ≡ skipIf (far t) t (receiverFrom self next s) }
+        ensures { (next : ℤ) (s : Signal) → receiver_from result next s ≡ skip_if (far t) t (receiver_from self next s) }
     {
         if is_far(t) {
             return self.add_slots(slots_to_skip(t));

@@ -2,7 +2,7 @@
 ghost use Rattle.std.specs.Prelude.{◌≡◌, pos};
 ghost use Rattle.listener.specs.Signal.{unheard};
 ghost use Rattle.slot_receiver.specs.Receiver.{new};
-ghost use Rattle.slot_receiver.specs.View.{modeNumber, receiverFrom};
+ghost use Rattle.slot_receiver.specs.View.{mode_number, receiver_from};
 
 use crate::clock::ready_time;
 use crate::{Mode, SlotReceiver};
@@ -10,9 +10,9 @@ use dsp_types::{SampleCount, TdmaTime};
 use rx_slot::{RxSlot, no_burst};
 
 // The number that a receiver stores for its mode.
-#[tactic(auto, unfolding(crate::specs::View::modeNumber))]
+#[tactic(auto, unfolding(crate::specs::View::mode_number))]
 fn number(mode: Mode) -> u8
-    ensures { result ≡ modeNumber mode }
+    ensures { result ≡ mode_number mode }
 {
     match mode {
         Mode::Idle => 0,
@@ -24,8 +24,8 @@ fn number(mode: Mode) -> u8
 
 impl SlotReceiver {
     pub fn new(initial_mode: Mode) -> SlotReceiver
-        ensures receiver { receiverFrom result (pos 0) unheard ≡ new initial_mode }
-        ensures mode { result.mode ≡ modeNumber initial_mode }
+        ensures receiver { receiver_from result (pos 0) unheard ≡ new initial_mode }
+        ensures mode { result.mode ≡ mode_number initial_mode }
     {
         let mode = number(initial_mode);
         let empty = no_burst();

@@ -1,7 +1,7 @@
 // Samples that are only kept, between windows.
 ghost use Rattle.std.specs.Prelude.{◌≡◌};
-ghost use Rattle.slot_receiver.specs.Quiet.{stands, quietSamples};
-ghost use Rattle.slot_receiver.specs.View.{clockOf};
+ghost use Rattle.slot_receiver.specs.Quiet.{stands, quiet_samples};
+ghost use Rattle.slot_receiver.specs.View.{clock_of};
 
 use crate::SlotReceiver;
 use crate::valid::{FAR_READY, FAR_REFERENCE, valid_time};
@@ -17,7 +17,7 @@ const LAST_QUIET: i64 = LAST_COUNTER - MOST_QUIET;
 impl SlotReceiver {
     // Whether the stored numbers are read as they are.
     fn stands(self) -> bool
-        ensures { result ≡ stands (clockOf self) self.slots_since_last_valid_burst }
+        ensures { result ≡ stands (clock_of self) self.slots_since_last_valid_burst }
     {
         let reference = self.reference_time;
         let ready = self.slot_ready_time;
@@ -30,7 +30,7 @@ impl SlotReceiver {
 
     // How many samples from this counter on are only kept, as far as it can be told at once.
     pub fn quiet_samples(self, counter: SampleCount) -> usize
-        ensures { result ≡ quietSamples (clockOf self) self.slots_since_last_valid_burst counter.0 }
+        ensures { result ≡ quiet_samples (clock_of self) self.slots_since_last_valid_burst counter.0 }
     {
         if !self.stands() {
             return 0;

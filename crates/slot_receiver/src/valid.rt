@@ -1,8 +1,8 @@
 // A stored number that no call could have left counts as a valid one.
 ghost use Rattle.std.specs.Prelude.{◌≡◌, min, ℤ};
 ghost use Rattle.listener.specs.Signal.{Signal};
-ghost use Rattle.slot_receiver.specs.Receiver.{lostAt, validTime, validCount, valid};
-ghost use Rattle.slot_receiver.specs.View.{receiverFrom};
+ghost use Rattle.slot_receiver.specs.Receiver.{lost_at, valid_time, valid_count, valid};
+ghost use Rattle.slot_receiver.specs.View.{receiver_from};
 
 use crate::SlotReceiver;
 use crate::window::LOST;
@@ -17,7 +17,7 @@ pub(crate) const FAR_READY: u64 = 1_099_511_627_775;
 const LAST_NEXT: i64 = LAST_COUNTER + 1;
 
 pub(crate) fn valid_time(t: SampleCount, most: u64) -> SampleCount
-    ensures { result.0 ≡ validTime most t.0 }
+    ensures { result.0 ≡ valid_time most t.0 }
 {
     if dsp_types::unsigned(t.0) <= most {
         t
@@ -28,7 +28,7 @@ pub(crate) fn valid_time(t: SampleCount, most: u64) -> SampleCount
 
 // A counter below 0 or above the last that may be expected counts as 0.
 pub fn valid_count(count: SampleCount) -> SampleCount
-    ensures { result.0 ≡ validCount count.0 }
+    ensures { result.0 ≡ valid_count count.0 }
 {
     if count.is_before(SampleCount(0)) | SampleCount(LAST_NEXT).is_before(count) {
         SampleCount(0)
@@ -38,7 +38,7 @@ pub fn valid_count(count: SampleCount) -> SampleCount
 }
 
 fn valid_misses(n: u32) -> u32
-    ensures { result ≡ min lostAt n }
+    ensures { result ≡ min lost_at n }
 {
     if n < LOST { n } else { LOST }
 }
@@ -46,7 +46,7 @@ fn valid_misses(n: u32) -> u32
 impl SlotReceiver {
     // The numbers that a sample works with.
     pub(crate) fn valid(self) -> SlotReceiver
-        ensures { (next : ℤ) (s : Signal) → receiverFrom result next s ≡ valid (receiverFrom self next s) }
+        ensures { (next : ℤ) (s : Signal) → receiver_from result next s ≡ valid (receiver_from self next s) }
     {
         let reference = valid_time(self.reference_time, FAR_REFERENCE);
         let ready = valid_time(self.slot_ready_time, FAR_READY);

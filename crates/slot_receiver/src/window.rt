@@ -1,11 +1,11 @@
 // A window closes: its bits, the burst in them, and when the next one closes.
 ghost use Rattle.std.specs.Prelude.{◌≡◌, List, ◌*◌, ◌^◌, ◌≤◌, ℤ, pos, ◌+ℤ◌, ◌-ℤ◌};
 ghost use Rattle.dsp_types.specs.declared.ComplexSample.{ComplexSample};
-ghost use Rattle.timing.specs.Tracking.{averagedOf};
+ghost use Rattle.timing.specs.Tracking.{averaged_of};
 ghost use Rattle.listener.specs.Signal.{Signal};
-ghost use Rattle.listener.specs.View.{signalFrom};
-ghost use Rattle.slot_receiver.specs.Receiver.{withSlot, emptied, processPastSamples, processed, track, schedule, closeWindow};
-ghost use Rattle.slot_receiver.specs.View.{mode_of, clockOf, receiverFrom};
+ghost use Rattle.listener.specs.View.{signal_from};
+ghost use Rattle.slot_receiver.specs.Receiver.{with_slot, emptied, process_past_samples, processed, track, schedule, close_window};
+ghost use Rattle.slot_receiver.specs.View.{mode_of, clock_of, receiver_from};
 ghost use Rattle.slot_receiver.specs.Bounds.{Within, Closing, Scheduled};
 
 use crate::{Mode, SlotReceiver};
@@ -34,7 +34,7 @@ fn found_time(ready: SampleCount, place: usize) -> SampleCount
 // The averaged timing error after a slot with this symbol timing, which is to stay near 2: half a symbol of margin
 // in both directions.
 fn averaged(error: f32, symbol_timing: f32) -> f32
-    ensures { result ≡ averagedOf error symbol_timing }
+    ensures { result ≡ averaged_of error symbol_timing }
 {
     error + (symbol_timing - 2.0 - error) * 0.1
 }
@@ -42,7 +42,7 @@ fn averaged(error: f32, symbol_timing: f32) -> f32
 impl SlotReceiver {
     // The slot that was handed over last has this number, and no burst is in the whole of it.
     fn emptied(self, time: TdmaTime) -> SlotReceiver
-        ensures { (next : ℤ) (s : Signal) → receiverFrom result next s ≡ withSlot (receiverFrom self next s) (emptied (receiverFrom self next s).slot time.0) }
+        ensures { (next : ℤ) (s : Signal) → receiver_from result next s ≡ with_slot (receiver_from self next s) (emptied (receiver_from self next s).slot time.0) }
     {
         let full = no_burst();
         let mut slot = self.demodulated_slot;
@@ -61,8 +61,8 @@ impl SlotReceiver {
         abs: &'a [f32; 2048],
         index: usize,
     ) -> SlotReceiver
-        requires { Closing (clockOf self) self.slots_since_last_valid_burst × (self.mode ≡ 1) }
-        ensures { (next c : ℤ) (inputs : List ComplexSample) → receiverFrom result next (signalFrom inputs re.now im.now abs.now index) ≡ processPastSamples Mode.DlUnsynchronized (receiverFrom self next (signalFrom inputs re.now im.now abs.now index)) c }
+        requires { Closing (clock_of self) self.slots_since_last_valid_burst × (self.mode ≡ 1) }
+        ensures { (next c : ℤ) (inputs : List ComplexSample) → receiver_from result next (signal_from inputs re.now im.now abs.now index) ≡ process_past_samples Mode.DlUnsynchronized (receiver_from self next (signal_from inputs re.now im.now abs.now index)) c }
     {
         let w = slot_window(re, im, abs, index);
         let bits = w.bits;
@@ -90,8 +90,8 @@ impl SlotReceiver {
         index: usize,
         counter: SampleCount,
     ) -> SlotReceiver
-        requires { Closing (clockOf self) self.slots_since_last_valid_burst × (self.mode ≡ 2) }
-        ensures { (next : ℤ) (inputs : List ComplexSample) → receiverFrom result next (signalFrom inputs re.now im.now abs.now index) ≡ processPastSamples Mode.Dl (receiverFrom self next (signalFrom inputs re.now im.now abs.now index)) counter.0 }
+        requires { Closing (clock_of self) self.slots_since_last_valid_burst × (self.mode ≡ 2) }
+        ensures { (next : ℤ) (inputs : List ComplexSample) → receiver_from result next (signal_from inputs re.now im.now abs.now index) ≡ process_past_samples Mode.Dl (receiver_from self next (signal_from inputs re.now im.now abs.now index)) counter.0 }
     {
         let w = slot_window(re, im, abs, index);
         let bits = w.bits;
@@ -133,8 +133,8 @@ impl SlotReceiver {
         index: usize,
         counter: SampleCount,
     ) -> SlotReceiver
-        requires { Closing (clockOf self) self.slots_since_last_valid_burst }
-        ensures { (next : ℤ) (inputs : List ComplexSample) → receiverFrom result next (signalFrom inputs re.now im.now abs.now index) ≡ processPastSamples Mode.Ul (receiverFrom self next (signalFrom inputs re.now im.now abs.now index)) counter.0 }
+        requires { Closing (clock_of self) self.slots_since_last_valid_burst }
+        ensures { (next : ℤ) (inputs : List ComplexSample) → receiver_from result next (signal_from inputs re.now im.now abs.now index) ≡ process_past_samples Mode.Ul (receiver_from self next (signal_from inputs re.now im.now abs.now index)) counter.0 }
     {
         let w = slot_window(re, im, abs, index);
         let w1 = first_half_window(re, im, abs, index);
@@ -169,8 +169,8 @@ impl SlotReceiver {
         index: usize,
         counter: SampleCount,
     ) -> SlotReceiver
-        requires { Closing (clockOf self) self.slots_since_last_valid_burst }
-        ensures { (next : ℤ) (inputs : List ComplexSample) → receiverFrom result next (signalFrom inputs re.now im.now abs.now index) ≡ processed (receiverFrom self next (signalFrom inputs re.now im.now abs.now index)) counter.0 }
+        requires { Closing (clock_of self) self.slots_since_last_valid_burst }
+        ensures { (next : ℤ) (inputs : List ComplexSample) → receiver_from result next (signal_from inputs re.now im.now abs.now index) ≡ processed (receiver_from self next (signal_from inputs re.now im.now abs.now index)) counter.0 }
     {
         let mode = self.mode;
         match mode {
@@ -183,8 +183,8 @@ impl SlotReceiver {
 
     // Timing that seems off by more than half a sample moves the reference time.
     fn track(self) -> SlotReceiver
-        requires { Scheduled (clockOf self) }
-        ensures { (next : ℤ) (s : Signal) → receiverFrom result next s ≡ track (receiverFrom self next s) }
+        requires { Scheduled (clock_of self) }
+        ensures { (next : ℤ) (s : Signal) → receiver_from result next s ≡ track (receiver_from self next s) }
     {
         let mut d = self;
         if 0.5 < d.averaged_timing_error {
@@ -202,8 +202,8 @@ impl SlotReceiver {
 
     // When the next window closes. Search windows overlap.
     fn schedule(self) -> SlotReceiver
-        requires { Scheduled (clockOf self) }
-        ensures { (next : ℤ) (s : Signal) → receiverFrom result next s ≡ schedule (mode_of self.mode) (receiverFrom self next s) }
+        requires { Scheduled (clock_of self) }
+        ensures { (next : ℤ) (s : Signal) → receiver_from result next s ≡ schedule (mode_of self.mode) (receiver_from self next s) }
     {
         let mode = self.mode;
         match mode {
@@ -228,8 +228,8 @@ impl SlotReceiver {
         index: usize,
         counter: SampleCount,
     ) -> SlotReceiver
-        requires { Closing (clockOf self) self.slots_since_last_valid_burst }
-        ensures { (next : ℤ) (inputs : List ComplexSample) → receiverFrom result next (signalFrom inputs re.now im.now abs.now index) ≡ closeWindow (receiverFrom self next (signalFrom inputs re.now im.now abs.now index)) counter.0 }
+        requires { Closing (clock_of self) self.slots_since_last_valid_burst }
+        ensures { (next : ℤ) (inputs : List ComplexSample) → receiver_from result next (signal_from inputs re.now im.now abs.now index) ≡ close_window (receiver_from self next (signal_from inputs re.now im.now abs.now index)) counter.0 }
     {
         self.process_past_samples(re, im, abs, index, counter)
             .schedule()

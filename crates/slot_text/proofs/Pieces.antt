@@ -5,35 +5,35 @@ use mathlib.Core.List.{List, [], ◌∷◌, ◌++◌, append_assoc, append-nil}
 use Rattle.text.specs.Text.{ascii, decimal}
 use Rattle.slot_text.specs.declared.Form.{Form}
 use Rattle.slot_text.specs.declared.Form.TheVariants.{Plain, Json}
-use Rattle.slot_text.specs.Fields.{Field, numberField, wordField, byForm, quote, equals, separator, opening, closing, quoted, valueText, fieldText, fieldsText, fieldLine}
+use Rattle.slot_text.specs.Fields.{Field, number_field, word_field, by_form, quote, equals, separator, opening, closing, quoted, value_text, field_text, fields_text, field_line}
 
-pub name-piece : (form : Form) (p n : List ℕ) → ((quote form ++ p) ++ n) ++ byForm form (ascii "=") (ascii "\":") ≡ quoted form (p ++ n) ++ equals form
-unfolding byForm quoted ascii
-name-piece Plain p n = simp append-nil
-name-piece Json p n = simp append_assoc
+pub name_piece : (form : Form) (p n : List ℕ) → ((quote form ++ p) ++ n) ++ by_form form (ascii "=") (ascii "\":") ≡ quoted form (p ++ n) ++ equals form
+unfolding by_form quoted ascii
+name_piece Plain p n = simp append-nil
+name_piece Json p n = simp append_assoc
 
-pub lead-piece : (form : Form) (name : List ℕ) → (separator form ++ (quoted form name ++ equals form)) ++ quote form ≡ separator form ++ (quoted form name ++ equals form ++ quote form)
-lead-piece form name = simp append_assoc
+pub lead_piece : (form : Form) (name : List ℕ) → (separator form ++ (quoted form name ++ equals form)) ++ quote form ≡ separator form ++ (quoted form name ++ equals form ++ quote form)
+lead_piece form name = simp append_assoc
 
-pub number-piece : (form : Form) (name : List ℕ) (n : ℕ) → (quoted form name ++ equals form) ++ decimal 20 n ≡ fieldText form (numberField name n)
-unfolding fieldText valueText
-number-piece form name n = append_assoc (quoted form name) (equals form) (decimal 20 n)
+pub number_piece : (form : Form) (name : List ℕ) (n : ℕ) → (quoted form name ++ equals form) ++ decimal 20 n ≡ field_text form (number_field name n)
+unfolding field_text value_text
+number_piece form name n = append_assoc (quoted form name) (equals form) (decimal 20 n)
 
-pub word_piece : (form : Form) (name w : List ℕ) → ((separator form ++ (quoted form name ++ equals form ++ quote form)) ++ w) ++ quote form ≡ fieldsText form (wordField name w ∷ [])
-unfolding fieldsText fieldText valueText quoted
+pub word_piece : (form : Form) (name w : List ℕ) → ((separator form ++ (quoted form name ++ equals form ++ quote form)) ++ w) ++ quote form ≡ fields_text form (word_field name w ∷ [])
+unfolding fields_text field_text value_text quoted
 word_piece form name w = simp (append_assoc, append-nil)
 
-pub next-piece : (form : Form) (f : Field) → separator form ++ fieldText form f ≡ fieldsText form (f ∷ [])
-unfolding fieldsText
-next-piece form f = simp append-nil
+pub next_piece : (form : Form) (f : Field) → separator form ++ field_text form f ≡ fields_text form (f ∷ [])
+unfolding fields_text
+next_piece form f = simp append-nil
 
-pub fields-append : (form : Form) (fs gs : List Field) → fieldsText form fs ++ fieldsText form gs ≡ fieldsText form (fs ++ gs)
-unfolding fieldsText
-fields-append form [] gs = refl
-fields-append form (f ∷ fs) gs = simp append_assoc (ap (λ (l : List ℕ). separator form ++ (fieldText form f ++ l)) (fields-append form fs gs))
+pub fields_append : (form : Form) (fs gs : List Field) → fields_text form fs ++ fields_text form gs ≡ fields_text form (fs ++ gs)
+unfolding fields_text
+fields_append form [] gs = refl
+fields_append form (f ∷ fs) gs = simp append_assoc (ap (λ (l : List ℕ). separator form ++ (field_text form f ++ l)) (fields_append form fs gs))
 
-pub whole-line : (form : Form) (f g : Field) (fs gs hs : List Field)
-    → (((((opening form ++ fieldText form f) ++ fieldsText form (g ∷ [])) ++ fieldsText form fs) ++ fieldsText form gs) ++ fieldsText form hs) ++ closing form
-    ≡ fieldLine form f (g ∷ (fs ++ gs ++ hs))
-unfolding fieldLine
-whole-line form f g fs gs hs = rw (← fields-append form (g ∷ []) (fs ++ gs ++ hs), ← fields-append form (fs ++ gs) hs, ← fields-append form fs gs) (simp append_assoc)
+pub whole_line : (form : Form) (f g : Field) (fs gs hs : List Field)
+    → (((((opening form ++ field_text form f) ++ fields_text form (g ∷ [])) ++ fields_text form fs) ++ fields_text form gs) ++ fields_text form hs) ++ closing form
+    ≡ field_line form f (g ∷ (fs ++ gs ++ hs))
+unfolding field_line
+whole_line form f g fs gs hs = rw (← fields_append form (g ∷ []) (fs ++ gs ++ hs), ← fields_append form (fs ++ gs) hs, ← fields_append form fs gs) (simp append_assoc)

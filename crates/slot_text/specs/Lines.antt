@@ -1,7 +1,7 @@
 -- The line that is printed of a slot (man/tetra_rx.1). Definitions only.
 use Rattle.std.specs.Prelude.{ℕ, Bool, cond, List, [], ◌∷◌, ◌++◌, map, eqb, length}
 use Rattle.std.specs.Int.Signed.{mag}
-use Rattle.text.specs.Text.{ascii, characterOf, typeName}
+use Rattle.text.specs.Text.{ascii, character_of, type_name}
 use Rattle.rx_slot.specs.declared.RxBurst.{RxBurst}
 use Rattle.rx_slot.specs.declared.RxSlot.{RxSlot}
 use Rattle.rx_slot.specs.Views.{BurstView}
@@ -9,48 +9,48 @@ use Rattle.rx_slot.specs.Slots.{HandedSlot}
 use Rattle.slot_text.specs.declared.Form.{Form}
 use Rattle.slot_text.specs.declared.Link.{Link}
 use Rattle.slot_text.specs.declared.Link.TheVariants.{Alone, Down, Up}
-use Rattle.slot_text.specs.Fields.{Field, numberField, wordField, fieldLine}
+use Rattle.slot_text.specs.Fields.{Field, number_field, word_field, field_line}
 
 -- which link it is of, where there are two
-unfoldable pub linkFields : Link → List Field
-linkFields Alone = []
-linkFields Down = wordField (ascii "link") (ascii "down") ∷ []
-linkFields Up = wordField (ascii "link") (ascii "up") ∷ []
+unfoldable pub link_fields : Link → List Field
+link_fields Alone = []
+link_fields Down = word_field (ascii "link") (ascii "down") ∷ []
+link_fields Up = word_field (ascii "link") (ascii "up") ∷ []
 
 -- a burst's bits, where they are wanted and there is a burst
-unfoldable pub bitsFields : Bool → List ℕ → List ℕ → List Field
-bitsFields hasBits prefix bits = cond (eqb (length bits) 0) [] (cond hasBits (wordField (prefix ++ ascii "bits") (map characterOf bits) ∷ []) [])
+unfoldable pub bits_fields : Bool → List ℕ → List ℕ → List Field
+bits_fields has_bits prefix bits = cond (eqb (length bits) 0) [] (cond has_bits (word_field (prefix ++ ascii "bits") (map character_of bits) ∷ []) [])
 
 -- a burst's type, wrong training bits and bits, each name behind a prefix
-unfoldable pub burstFields : Bool → List ℕ → BurstView → List Field
-burstFields hasBits prefix v =
-    wordField (prefix ++ ascii "type") (typeName v.type)
-    ∷ numberField (prefix ++ ascii "errors") v.errors
-    ∷ bitsFields hasBits prefix v.bits
+unfoldable pub burst_fields : Bool → List ℕ → BurstView → List Field
+burst_fields has_bits prefix v =
+    word_field (prefix ++ ascii "type") (type_name v.type)
+    ∷ number_field (prefix ++ ascii "errors") v.errors
+    ∷ bits_fields has_bits prefix v.bits
 
 -- the bursts in the halves of an uplink slot
-unfoldable pub halfFields : Bool → Link → BurstView → BurstView → List Field
-halfFields hasBits Alone v w = []
-halfFields hasBits Down v w = []
-halfFields hasBits Up v w = burstFields hasBits (ascii "half1_") v ++ burstFields hasBits (ascii "half2_") w
+unfoldable pub half_fields : Bool → Link → BurstView → BurstView → List Field
+half_fields has_bits Alone v w = []
+half_fields has_bits Down v w = []
+half_fields has_bits Up v w = burst_fields has_bits (ascii "half1_") v ++ burst_fields has_bits (ascii "half2_") w
 
 -- a slot's line. The counter of a slot that was taken is 0 or more, and `mag` gives it as it is
-unfoldable pub slotLine : Form → Bool → Link → HandedSlot → List ℕ
-slotLine form hasBits link h =
-    fieldLine form (numberField (ascii "slot") h.time)
-    (numberField (ascii "sample") (mag h.closingCounter) ∷ (linkFields link ++ burstFields hasBits [] h.full ++ halfFields hasBits link h.subslot1 h.subslot2))
+unfoldable pub slot_line : Form → Bool → Link → HandedSlot → List ℕ
+slot_line form has_bits link h =
+    field_line form (number_field (ascii "slot") h.time)
+    (number_field (ascii "sample") (mag h.closing_counter) ∷ (link_fields link ++ burst_fields has_bits [] h.full ++ half_fields has_bits link h.subslot1 h.subslot2))
 
 -- ---- a slot in numbers, with the bits of its bursts
 
-unfoldable pub burstRead : RxBurst → List ℕ → BurstView
-burstRead b bits = record { type = b.train_type; errors = b.train_errs; place = b.burst_pos; bits = bits }
+unfoldable pub burst_read : RxBurst → List ℕ → BurstView
+burst_read b bits = record { type = b.train_type; errors = b.train_errs; place = b.burst_pos; bits = bits }
 
-unfoldable pub slotRead : RxSlot → (full subslot1 subslot2 : List ℕ) → HandedSlot
-slotRead s full subslot1 subslot2 =
+unfoldable pub slot_read : RxSlot → (full subslot1 subslot2 : List ℕ) → HandedSlot
+slot_read s full subslot1 subslot2 =
     record {
       time = s.time.0;
-      closingCounter = s.closing_counter.0;
-      full = burstRead s.full full;
-      subslot1 = burstRead s.subslot1 subslot1;
-      subslot2 = burstRead s.subslot2 subslot2;
+      closing_counter = s.closing_counter.0;
+      full = burst_read s.full full;
+      subslot1 = burst_read s.subslot1 subslot1;
+      subslot2 = burst_read s.subslot2 subslot2;
     }

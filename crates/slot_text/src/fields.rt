@@ -1,15 +1,15 @@
 // Named values, one behind the other.
 ghost use Rattle.std.specs.Prelude.{◌≡◌, [], ◌∷◌, ◌++◌};
 ghost use Rattle.text.specs.Text.{text_of, cut};
-ghost use Rattle.slot_text.specs.Fields.{numberField, byForm, quote, equals, separator, quoted, fieldText, fieldsText};
+ghost use Rattle.slot_text.specs.Fields.{number_field, by_form, quote, equals, separator, quoted, field_text, fields_text};
 
 use crate::Form;
 use text::Text;
 
 // With the one or the other behind it.
-#[tactic(auto, unfolding(crate::specs::Fields::byForm))]
+#[tactic(auto, unfolding(crate::specs::Fields::by_form))]
 pub(crate) fn by_form(text: Text, form: Form, plain: &[u8], json: &[u8]) -> Text
-    ensures { text_of result ≡ cut (text_of text ++ byForm form plain.now json.now) }
+    ensures { text_of result ≡ cut (text_of text ++ by_form form plain.now json.now) }
 {
     match form {
         Form::Plain => text.append(plain),
@@ -26,14 +26,14 @@ fn with_name(text: Text, form: Form, prefix: &[u8], name: &[u8]) -> Text
 
 // With the field of a number.
 pub(crate) fn with_number(text: Text, form: Form, prefix: &[u8], name: &[u8], n: u64) -> Text
-    ensures { text_of result ≡ cut (text_of text ++ fieldText form (numberField (prefix.now ++ name.now) n)) }
+    ensures { text_of result ≡ cut (text_of text ++ field_text form (number_field (prefix.now ++ name.now) n)) }
 {
     with_name(text, form, prefix, name).decimal(n)
 }
 
 // With the next field, that of a number.
 pub(crate) fn with_next_number(text: Text, form: Form, prefix: &[u8], name: &[u8], n: u64) -> Text
-    ensures { text_of result ≡ cut (text_of text ++ fieldsText form (numberField (prefix.now ++ name.now) n ∷ [])) }
+    ensures { text_of result ≡ cut (text_of text ++ fields_text form (number_field (prefix.now ++ name.now) n ∷ [])) }
 {
     with_number(by_form(text, form, b" ", b","), form, prefix, name, n)
 }

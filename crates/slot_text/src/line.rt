@@ -1,8 +1,8 @@
 // The line of a slot.
 ghost use Rattle.std.specs.Prelude.{◌≡◌, [], ◌∷◌, ◌++◌};
-ghost use Rattle.text.specs.Text.{text_of, cut, ascii, typeName};
-ghost use Rattle.slot_text.specs.Fields.{wordField, fieldsText};
-ghost use Rattle.slot_text.specs.Lines.{linkFields, bitsFields, burstFields, halfFields, slotLine, burstRead, slotRead};
+ghost use Rattle.text.specs.Text.{text_of, cut, ascii, type_name};
+ghost use Rattle.slot_text.specs.Fields.{word_field, fields_text};
+ghost use Rattle.slot_text.specs.Lines.{link_fields, bits_fields, burst_fields, half_fields, slot_line, burst_read, slot_read};
 
 use crate::fields::{by_form, up_to_word, with_next_number, with_number};
 use crate::{Form, Link};
@@ -11,7 +11,7 @@ use text::Text;
 
 // With the next field, whose value is a word.
 fn with_word(text: Text, form: Form, name: &[u8], word: &[u8]) -> Text
-    ensures { text_of result ≡ cut (text_of text ++ fieldsText form (wordField name.now word.now ∷ [])) }
+    ensures { text_of result ≡ cut (text_of text ++ fields_text form (word_field name.now word.now ∷ [])) }
 {
     by_form(
         up_to_word(text, form, b"", name).append(word),
@@ -22,7 +22,7 @@ fn with_word(text: Text, form: Form, name: &[u8], word: &[u8]) -> Text
 }
 
 fn with_link(text: Text, form: Form, link: Link) -> Text
-    ensures { text_of result ≡ cut (text_of text ++ fieldsText form (linkFields link)) }
+    ensures { text_of result ≡ cut (text_of text ++ fields_text form (link_fields link)) }
 {
     match link {
         Link::Alone => text.append(b""),
@@ -32,7 +32,7 @@ fn with_link(text: Text, form: Form, link: Link) -> Text
 }
 
 fn with_bits(text: Text, form: Form, has_bits: bool, prefix: &[u8], bits: &[u8]) -> Text
-    ensures { text_of result ≡ cut (text_of text ++ fieldsText form (bitsFields has_bits prefix.now bits.now)) }
+    ensures { text_of result ≡ cut (text_of text ++ fields_text form (bits_fields has_bits prefix.now bits.now)) }
 {
     if bits.len() == 0 {
         return text.append(b"");
@@ -50,7 +50,7 @@ fn with_bits(text: Text, form: Form, has_bits: bool, prefix: &[u8], bits: &[u8])
 }
 
 fn with_type(text: Text, form: Form, prefix: &[u8], train_type: u8) -> Text
-    ensures { text_of result ≡ cut (text_of text ++ fieldsText form (wordField (prefix.now ++ ascii "type") (typeName train_type) ∷ [])) }
+    ensures { text_of result ≡ cut (text_of text ++ fields_text form (word_field (prefix.now ++ ascii "type") (type_name train_type) ∷ [])) }
 {
     by_form(
         up_to_word(text, form, prefix, b"type").type_name(train_type as u32),
@@ -69,7 +69,7 @@ fn with_burst(
     burst: RxBurst,
     bits: &[u8],
 ) -> Text
-    ensures { text_of result ≡ cut (text_of text ++ fieldsText form (burstFields has_bits prefix.now (burstRead burst bits.now))) }
+    ensures { text_of result ≡ cut (text_of text ++ fields_text form (burst_fields has_bits prefix.now (burst_read burst bits.now))) }
 {
     let typed = with_type(text, form, prefix, burst.train_type);
     let judged = with_next_number(typed, form, prefix, b"errors", burst.train_errs as u64);
@@ -86,7 +86,7 @@ fn with_halves(
     bits1: &[u8],
     bits2: &[u8],
 ) -> Text
-    ensures { text_of result ≡ cut (text_of text ++ fieldsText form (halfFields has_bits link (burstRead slot.subslot1 bits1.now) (burstRead slot.subslot2 bits2.now))) }
+    ensures { text_of result ≡ cut (text_of text ++ fields_text form (half_fields has_bits link (burst_read slot.subslot1 bits1.now) (burst_read slot.subslot2 bits2.now))) }
 {
     match link {
         Link::Alone => text.append(b""),
@@ -108,7 +108,7 @@ pub fn slot_line(
     bits1: &[u8],
     bits2: &[u8],
 ) -> Text
-    ensures { text_of result ≡ cut (slotLine form has_bits link (slotRead slot bits.now bits1.now bits2.now)) }
+    ensures { text_of result ≡ cut (slot_line form has_bits link (slot_read slot bits.now bits1.now bits2.now)) }
 {
     let numbered = with_number(
         by_form(Text::new(), form, b"", b"{"),

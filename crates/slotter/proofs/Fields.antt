@@ -8,7 +8,7 @@ use lib.Dec.{eqb}
 use lib.ListN.{length, take, drop, length-append, length-drop, take-append-drop, drop_of_length-le}
 use lib.Seq.{paste, take_at, drop_at, take-length, drop-drop, drop-append-add, length-take-le, take_all}
 use Rattle.train_consts.specs.Training.{normal1, normal2}
-use Rattle.slotter.specs.Bursts.{trainingOf, normalFields}
+use Rattle.slotter.specs.Bursts.{training_of, normal_fields}
 
 -- w is the list z with its first `at` elements replaced by those of a
 pub record Filled (z a w : List ℕ) (at : ℕ) : Type 0 where
@@ -88,23 +88,23 @@ module _ (z : List ℕ) {w₁ w₂ w₃ w₄ w₅ : List ℕ} {p₁ p₂ p₃ p�
       behind (take at z) (a ++ b ++ c ++ d ++ e) 14 484 (chain (omega arith)) (simp append_assoc) (length-take-le at z (omega arith) ∙ s) (simp length-append (omega arith))
 
   -- .. which are all there is
-  pub all-five : at ≡ 0 → length z ≡ length a + length b + length c + length d + length e → w₅ ≡ a ++ b ++ c ++ d ++ e
-  all-five s n = rw s at (full (chain (omega arith)) (omega arith))
+  pub all_five : at ≡ 0 → length z ≡ length a + length b + length c + length d + length e → w₅ ≡ a ++ b ++ c ++ d ++ e
+  all_five s n = rw s at (full (chain (omega arith)) (omega arith))
 
 -- ---- the middle block of a normal burst, cut in two
 
-pub training-length : (n : ℕ) → length (trainingOf n) ≡ 22
-unfolding trainingOf normal1 normal2
-training-length n = go (eqb n 1)
+pub training_length : (n : ℕ) → length (training_of n) ≡ 22
+unfolding training_of normal1 normal2
+training_length n = go (eqb n 1)
   where
     go : (b : Bool) → length (cond b normal1 normal2) ≡ 22
     go true = refl
     go false = refl
 
-pub cut-length : (bbk : List ℕ) → length bbk ≡ 30 → (length (take 14 bbk) ≡ 14) × (length (take 16 (drop 14 bbk)) ≡ 16)
-cut-length bbk h = (length-take-le 14 bbk (omega arith), length-take-le 16 (drop 14 bbk) (omega (arith, length-drop 14 bbk)))
+pub cut_length : (bbk : List ℕ) → length bbk ≡ 30 → (length (take 14 bbk) ≡ 14) × (length (take 16 (drop 14 bbk)) ≡ 16)
+cut_length bbk h = (length-take-le 14 bbk (omega arith), length-take-le 16 (drop 14 bbk) (omega (arith, length-drop 14 bbk)))
 
 pub cut : {t training : List ℕ} (blk1 bbk blk2 : List ℕ) → t ≡ training → length bbk ≡ 30
-    → blk1 ++ take 14 bbk ++ t ++ take 16 (drop 14 bbk) ++ blk2 ≡ normalFields training blk1 bbk blk2
-unfolding normalFields
+    → blk1 ++ take 14 bbk ++ t ++ take 16 (drop 14 bbk) ++ blk2 ≡ normal_fields training blk1 bbk blk2
+unfolding normal_fields
 cut blk1 bbk blk2 e h = rw (e, take_all 16 (drop 14 bbk) (omega (arith, length-drop 14 bbk)))

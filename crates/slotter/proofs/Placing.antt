@@ -20,68 +20,68 @@ one_more d s i v h k e =
 abbrev zeros : ℕ → List ℕ
 zeros n = replicate n 0
 
-zeros-length : (n : ℕ) → length (zeros n) ≡ n
-zeros-length n = length-replicate n 0
+zeros_length : (n : ℕ) → length (zeros n) ≡ n
+zeros_length n = length-replicate n 0
 
 -- what a window is the first bits of
 abbrev pub line : ℕ → ℕ → List ℕ → List ℕ
 line n offset burst = zeros offset ++ burst ++ zeros n
 
 -- a zero, there or not
-zero-at : (n i : ℕ) → get_or (zeros n) i 0 ≡ 0
-zero-at n i =
+zero_at : (n i : ℕ) → get_or (zeros n) i 0 ≡ 0
+zero_at n i =
     elim (dec_le (suc i) n) [
       | yes h ↦ get_or-replicate n i 0 0 h
-      | no h ↦ get_or-eq_default (zeros n) 0 (omega (arith, h, zeros-length n))
+      | no h ↦ get_or-eq_default (zeros n) 0 (omega (arith, h, zeros_length n))
     ]
 
 -- zeros behind a list are what get_or gives there anyway
-zeros-behind : (n : ℕ) (l : List ℕ) (i : ℕ) → get_or (l ++ zeros n) i 0 ≡ get_or l i 0
-zeros-behind n l i =
+zeros_behind : (n : ℕ) (l : List ℕ) (i : ℕ) → get_or (l ++ zeros n) i 0 ≡ get_or l i 0
+zeros_behind n l i =
     elim (dec_le (suc i) (length l)) [
       | yes h ↦ get_or-append l (zeros n) 0 i h
       | no h ↦
           let e : length l + (i - length l) ≡ i = omega (arith, h) in
-          rw e at (get_or-append-add l (zeros n) (i - length l) 0) ∙ zero-at n (i - length l) ∙ sym (get_or-eq_default l 0 (omega (arith, h)))
+          rw e at (get_or-append-add l (zeros n) (i - length l) 0) ∙ zero_at n (i - length l) ∙ sym (get_or-eq_default l 0 (omega (arith, h)))
     ]
 
 module _ (offset : ℕ) (burst : List ℕ) where
   -- ---- bit i of it
   pub before : (i : ℕ) → i < offset → 0 ≡ get_or (zeros offset ++ burst) i 0
-  before i h = sym (get_or-append (zeros offset) burst 0 i (omega (arith, zeros-length offset)) ∙ zero-at offset i)
+  before i h = sym (get_or-append (zeros offset) burst 0 i (omega (arith, zeros_length offset)) ∙ zero_at offset i)
 
   pub within : (i : ℕ) → offset ≤ i → get_or burst (i - offset) 0 ≡ get_or (zeros offset ++ burst) i 0
   within i h =
-      let e : length (zeros offset) + (i - offset) ≡ i = omega (arith, zeros-length offset) in
+      let e : length (zeros offset) + (i - offset) ≡ i = omega (arith, zeros_length offset) in
       sym (rw e at (get_or-append-add (zeros offset) burst (i - offset) 0))
 
   pub behind : (i : ℕ) → offset ≤ i → length burst ≤ i - offset → 0 ≡ get_or (zeros offset ++ burst) i 0
   behind i h k = sym (get_or-eq_default burst 0 k) ∙ within i h
 
   -- ---- the loop
-  line-length : (n : ℕ) → n ≤ length (line n offset burst)
-  line-length n = simp length-append (omega (arith, zeros-length n))
+  line_length : (n : ℕ) → n ≤ length (line n offset burst)
+  line_length n = simp length-append (omega (arith, zeros_length n))
 
-  pub bit-more : {w : List ℕ} {v : ℕ} (d : List ℕ) (i : ℕ) → w ≡ take i (line (length d) offset burst) ++ drop i d → v ≡ get_or (zeros offset ++ burst) i 0 → i < length d
+  pub bit_more : {w : List ℕ} {v : ℕ} (d : List ℕ) (i : ℕ) → w ≡ take i (line (length d) offset burst) ++ drop i d → v ≡ get_or (zeros offset ++ burst) i 0 → i < length d
       → set w i v ≡ take (i + 1) (line (length d) offset burst) ++ drop (i + 1) d
-  bit-more d i e f h =
-      rw e (one_more d (line (length d) offset burst) i _ h (omega (arith, line-length (length d))) (zeros-behind (length d) (zeros offset ++ burst) i ∙ sym f))
+  bit_more d i e f h =
+      rw e (one_more d (line (length d) offset burst) i _ h (omega (arith, line_length (length d))) (zeros_behind (length d) (zeros offset ++ burst) i ∙ sym f))
 
-  pub bits-done : {w : List ℕ} (d : List ℕ) (i : ℕ) → w ≡ take i (line (length d) offset burst) ++ drop i d → i ≡ length d → w ≡ placed (length d) offset burst
+  pub bits_done : {w : List ℕ} (d : List ℕ) (i : ℕ) → w ≡ take i (line (length d) offset burst) ++ drop i d → i ≡ length d → w ≡ placed (length d) offset burst
   unfolding placed
-  bits-done d i e f = e ∙ rw (f, drop_of_length-le d {i = length d} (omega arith)) (append-nil (take (length d) (line (length d) offset burst)))
+  bits_done d i e f = e ∙ rw (f, drop_of_length-le d {i = length d} (omega arith)) (append-nil (take (length d) (line (length d) offset burst)))
 
   -- ---- what stands in a window
   module _ (n : ℕ) where
-    pub placed-length : length (placed n offset burst) ≡ n
+    pub placed_length : length (placed n offset burst) ≡ n
     unfolding placed
-    placed-length = length-take-le n (line n offset burst) (line-length n)
+    placed_length = length-take-le n (line n offset burst) (line_length n)
 
     -- a burst that fits, with zeros around it
-    pub placed-whole : offset + length burst ≤ n → placed n offset burst ≡ zeros offset ++ burst ++ take (n - (offset + length burst)) (zeros n)
+    pub placed_whole : offset + length burst ≤ n → placed n offset burst ≡ zeros offset ++ burst ++ take (n - (offset + length burst)) (zeros n)
     unfolding placed
-    placed-whole h =
+    placed_whole h =
         let l : List ℕ = zeros offset ++ burst in
-        let m : length l ≡ offset + length burst = length-append (zeros offset) burst ∙ omega (arith, zeros-length offset) in
+        let m : length l ≡ offset + length burst = length-append (zeros offset) burst ∙ omega (arith, zeros_length offset) in
         let e : length l + (n - (offset + length burst)) ≡ n = omega (arith, m) in
         rw e at (take-append-add l (zeros n) (n - (offset + length burst)))

@@ -5,11 +5,11 @@ mod uplink;
 
 ghost use Rattle.std.specs.Prelude.{◌≡◌, ◌+◌, ◌*◌, ◌%◌, ◌≤◌, ◌++◌, length, take, drop};
 ghost use Rattle.std.proofs.Math.Seq.{paste};
-ghost use Rattle.dsp_types.specs.Refusals.{wrongLength};
+ghost use Rattle.dsp_types.specs.Refusals.{wrong_length};
 ghost use Rattle.train_consts.specs.Training.{normal3};
-ghost use Rattle.dsp_types.specs.Phases.{phaseOf, modulo8};
-ghost use Rattle.slotter.specs.Phases.{phaseSum, adjustment};
-ghost use Rattle.slotter.specs.Bursts.{trainingOf, lengthOrBit, blockRefusal, trainingRefusal, builderReply, refusal, burstUnless, syncBurst, normalBurst};
+ghost use Rattle.dsp_types.specs.Phases.{phase_of, modulo8};
+ghost use Rattle.slotter.specs.Phases.{phase_sum, adjustment};
+ghost use Rattle.slotter.specs.Bursts.{training_of, length_or_bit, block_refusal, training_refusal, builder_reply, refusal, burst_unless, sync_burst, normal_burst};
 
 use dsp_types::{ACCEPTED, BAD_BIT, BAD_LENGTH, BAD_TRAINING, not_bits};
 use train_consts::{FREQ_CORRECTION, SEQ_NORM1, SEQ_NORM2, SEQ_NORM3, SEQ_SYNC};
@@ -36,7 +36,7 @@ pub struct Burst {
 impl Burst {
     // 0, or the refusal's number.
     pub fn number(self) -> u32
-        ensures { result ≡ (builderReply self).number }
+        ensures { result ≡ (builder_reply self).number }
     {
         let answer = self.answer;
         match answer {
@@ -48,7 +48,7 @@ impl Burst {
 
 // The answer that refuses.
 fn refused(number: u32) -> Burst
-    ensures { builderReply result ≡ refusal number }
+    ensures { builder_reply result ≡ refusal number }
 {
     Burst {
         answer: Answer::Refused(number),
@@ -69,7 +69,7 @@ fn put(bits: &mut [u8], at: usize, field: &[u8]) -> usize
 
 // The phase of a symbol of two bits, in eighths of a turn.
 fn phase_of(first: u8, second: u8) -> i32
-    ensures { result ≡ phaseOf first second }
+    ensures { result ≡ phase_of first second }
 {
     if first == 0 {
         if second == 0 { 1 } else { 3 }
@@ -81,7 +81,7 @@ fn phase_of(first: u8, second: u8) -> i32
 // The sum of the phases of a window's symbols.
 fn sum_up_phase(bits: &[u8]) -> i32
     requires { length bits.now ≤ 510 }
-    ensures { result ≡ phaseSum bits.now }
+    ensures { result ≡ phase_sum bits.now }
 {
     let mut sum: i32 = 0;
     let mut at: usize = 0;
@@ -95,7 +95,7 @@ fn sum_up_phase(bits: &[u8]) -> i32
 // The phase of the adjustment symbol of a window with an odd sum: its opposite, folded into the span from −3 to 3.
 fn calc_phase_adj(phase: i32) -> i32
     requires { modulo8 phase % 2 ≡ 1 }
-    ensures { result ≡ phaseSum (adjustment phase) }
+    ensures { result ≡ phase_sum (adjustment phase) }
 {
     let rest = phase % 8;
     if 3 < rest {
@@ -126,14 +126,14 @@ fn phase_adj_bits(sum: i32) -> [u8; 2]
 
 // Whether a block has not n bits.
 fn wrong_length(n: usize, block: &[u8]) -> bool
-    ensures { result ≡ wrongLength n block.now }
+    ensures { result ≡ wrong_length n block.now }
 {
     block.len() != n
 }
 
 // 3 where a block has another length, 4 where a byte of one is no bit, else `otherwise`.
 fn length_or_bit(lengths: bool, bits: bool, otherwise: u32) -> u32
-    ensures { result ≡ lengthOrBit lengths bits otherwise }
+    ensures { result ≡ length_or_bit lengths bits otherwise }
 {
     if lengths {
         return BAD_LENGTH;
@@ -143,7 +143,7 @@ fn length_or_bit(lengths: bool, bits: bool, otherwise: u32) -> u32
 
 // The refusal of three blocks of n, 30 and 216 bits.
 fn block_refusal(n: usize, blk1: &[u8], bbk: &[u8], blk2: &[u8], otherwise: u32) -> u32
-    ensures { result ≡ blockRefusal n blk1.now bbk.now blk2.now otherwise }
+    ensures { result ≡ block_refusal n blk1.now bbk.now blk2.now otherwise }
 {
     let lengths = wrong_length(n, blk1) | wrong_length(30, bbk) | wrong_length(216, blk2);
     let bits = not_bits(blk1) | not_bits(bbk) | not_bits(blk2);
@@ -152,7 +152,7 @@ fn block_refusal(n: usize, blk1: &[u8], bbk: &[u8], blk2: &[u8], otherwise: u32)
 
 // 5 for a training sequence other than 1 or 2, else 0.
 fn training_refusal(train: u32) -> u32
-    ensures { result ≡ trainingRefusal train }
+    ensures { result ≡ training_refusal train }
 {
     if (train == 1) | (train == 2) {
         ACCEPTED
@@ -163,7 +163,7 @@ fn training_refusal(train: u32) -> u32
 
 // The normal training sequence with that number, 1 or 2.
 fn training(train: u32) -> [u8; 22]
-    ensures { result ≡ trainingOf train }
+    ensures { result ≡ training_of train }
 {
     if train == 1 { SEQ_NORM1 } else { SEQ_NORM2 }
 }
@@ -184,7 +184,7 @@ fn framed(bits: [u8; 510], first: [u8; 2], last: [u8; 2]) -> [u8; 510]
 // The burst with the fields that stand at 14 to 498. Its first window ends with the symbol `last`.
 fn adjusted(bits: [u8; 510], last: usize) -> Burst
     requires { (7 ≤ last) × (last ≤ 249) × (last % 2 ≡ 0) }
-    ensures { builderReply result ≡ burstUnless 0 last (take 484 (drop 14 bits)) }
+    ensures { builder_reply result ≡ burst_unless 0 last (take 484 (drop 14 bits)) }
 {
     let cut = 2 * last;
     let first_sum = sum_up_phase(&bits[14..cut]);
@@ -198,7 +198,7 @@ fn adjusted(bits: [u8; 510], last: usize) -> Burst
 // The burst of five fields, 484 bits in all, whose first window ends with the symbol `last`.
 fn joined(last: usize, a: &[u8], b: &[u8], c: &[u8], d: &[u8], e: &[u8]) -> Burst
     requires { (7 ≤ last) × (last ≤ 249) × (last % 2 ≡ 0) × (length a.now + length b.now + length c.now + length d.now + length e.now ≡ 484) }
-    ensures { builderReply result ≡ burstUnless 0 last (a.now ++ b.now ++ c.now ++ d.now ++ e.now) }
+    ensures { builder_reply result ≡ burst_unless 0 last (a.now ++ b.now ++ c.now ++ d.now ++ e.now) }
 {
     let mut bits = [0; 510];
     let mut at = put(&mut bits, 14, a);
@@ -211,7 +211,7 @@ fn joined(last: usize, a: &[u8], b: &[u8], c: &[u8], d: &[u8], e: &[u8]) -> Burs
 
 // Clause 9.4.4.2.6, synchronization continuous downlink burst: blocks of 120, 30 and 216 bits.
 pub fn build_sdb(blk1: &[u8], bbk: &[u8], blk2: &[u8]) -> Burst
-    ensures { builderReply result ≡ syncBurst blk1.now bbk.now blk2.now }
+    ensures { builder_reply result ≡ sync_burst blk1.now bbk.now blk2.now }
 {
     let number = block_refusal(120, blk1, bbk, blk2, ACCEPTED);
     if number != ACCEPTED {
@@ -224,7 +224,7 @@ pub fn build_sdb(blk1: &[u8], bbk: &[u8], blk2: &[u8]) -> Burst
 
 // Clause 9.4.4.2.5, normal continuous downlink burst: training sequence 1 or 2, blocks of 216, 30 and 216 bits.
 pub fn build_ndb(train: u32, blk1: &[u8], bbk: &[u8], blk2: &[u8]) -> Burst
-    ensures { builderReply result ≡ normalBurst train blk1.now bbk.now blk2.now }
+    ensures { builder_reply result ≡ normal_burst train blk1.now bbk.now blk2.now }
 {
     let number = block_refusal(216, blk1, bbk, blk2, training_refusal(train));
     if number != ACCEPTED {

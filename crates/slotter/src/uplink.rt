@@ -1,6 +1,6 @@
 // Uplink bursts, which a handset sends, and the window that a receiver finds one in.
 ghost use Rattle.std.specs.Prelude.{◌≡◌, ◌+◌, [], ◌++◌, length, get_or, replicate};
-ghost use Rattle.slotter.specs.Uplink.{uplink, pairRefusal, uplinkReply, normalUplink, controlUplink, uplinkNumber, placed};
+ghost use Rattle.slotter.specs.Uplink.{uplink, pair_refusal, uplink_reply, normal_uplink, control_uplink, uplink_number, placed};
 
 use crate::{length_or_bit, put, training, training_refusal, wrong_length};
 use dsp_types::{ACCEPTED, not_bits};
@@ -17,7 +17,7 @@ pub enum UplinkAnswer {
 impl UplinkAnswer {
     // 0, or the refusal's number.
     pub fn number(self) -> u32
-        ensures { result ≡ uplinkNumber (uplinkReply self []) }
+        ensures { result ≡ uplink_number (uplink_reply self []) }
     {
         match self {
             UplinkAnswer::Built => ACCEPTED,
@@ -40,7 +40,7 @@ pub struct ControlUplinkBurst {
 
 // The refusal of two blocks of n bits: 3, 4, else `otherwise`.
 fn pair_refusal(n: usize, blk1: &[u8], blk2: &[u8], otherwise: u32) -> u32
-    ensures { result ≡ pairRefusal n blk1.now blk2.now otherwise }
+    ensures { result ≡ pair_refusal n blk1.now blk2.now otherwise }
 {
     let lengths = wrong_length(n, blk1) | wrong_length(n, blk2);
     let bits = not_bits(blk1) | not_bits(blk2);
@@ -62,7 +62,7 @@ fn put_fields(bits: &mut [u8], blk1: &[u8], sequence: &[u8], blk2: &[u8])
 
 // Clause 9.4.4.2.4, normal uplink burst: training sequence 1 or 2, two blocks of 216 bits.
 pub fn build_nub(train: u32, blk1: &[u8], blk2: &[u8]) -> NormalUplinkBurst
-    ensures { uplinkReply result.answer result.bits ≡ normalUplink train blk1.now blk2.now }
+    ensures { uplink_reply result.answer result.bits ≡ normal_uplink train blk1.now blk2.now }
 {
     let mut bits = [0; 462];
     let number = pair_refusal(216, blk1, blk2, training_refusal(train));
@@ -82,7 +82,7 @@ pub fn build_nub(train: u32, blk1: &[u8], blk2: &[u8]) -> NormalUplinkBurst
 
 // Clause 9.4.4.2.1, control uplink burst: two blocks of 84 bits.
 pub fn build_cub(blk1: &[u8], blk2: &[u8]) -> ControlUplinkBurst
-    ensures { uplinkReply result.answer result.bits ≡ controlUplink blk1.now blk2.now }
+    ensures { uplink_reply result.answer result.bits ≡ control_uplink blk1.now blk2.now }
 {
     let mut bits = [0; 206];
     let number = pair_refusal(84, blk1, blk2, ACCEPTED);

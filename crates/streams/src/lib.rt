@@ -6,7 +6,7 @@
 mod host;
 mod wait;
 
-ghost use Rattle.std.specs.Prelude.{OnOk, IfSome};
+ghost use Rattle.std.specs.Prelude.{IsTrue, OnOk, IfSome};
 ghost use Rattle.io.specs.Counts.{IsPrefixLen};
 ghost use Rattle.std.specs.Io.{ReadsAtMost, WritesAtMost};
 ghost use Rattle.std.specs.Io.KnownBytes.{Appends, ReadConsumes, WriteAppends};
@@ -115,9 +115,11 @@ pub fn read_or_tell<H: Host, R: Read>(
     }
 }
 
-// Writes all of the bytes to standard output. Where that fails, a line on standard error tells so, and the answer is false.
-pub fn print_or_tell<H: Host>(rt: &H, bytes: &[u8], what: &[u8]) -> bool {
-    match print(rt, bytes) {
+// Writes all of the bytes. Where that fails, a line on standard error tells so, and the answer is false.
+pub fn write_or_tell<H: Host, W: Write>(rt: &H, to: &mut W, bytes: &[u8], what: &[u8]) -> bool
+    ensures { IsTrue result → Appends (W.contents to.old) (W.contents to.new) bytes.now }
+{
+    match write_all(rt, to, bytes) {
         Ok(()) => true,
         Err(error) => {
             fail(rt, what, error);

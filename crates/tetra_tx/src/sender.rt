@@ -20,8 +20,9 @@ pub struct Sender {
 fn write_samples<H: Host>(rt: &H, parts: &[f32]) -> bool {
     let mut bytes = [0u8; 8160];
     let count = iq_format::encode(parts, &mut bytes);
-    streams::print_or_tell(
+    streams::write_or_tell(
         rt,
+        &mut rt.output(),
         &bytes[..4 * count],
         b"tetra_tx: the samples cannot be written",
     )

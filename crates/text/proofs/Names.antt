@@ -4,11 +4,11 @@ use mathlib.Core.Bool.{Bool, true, false, cond}
 use native.Mathlib.Omega.{arith}
 use lib.Dec.{eqb}
 use lib.ListN.{length}
-use Rattle.text.specs.Text.{ascii, typeName}
+use Rattle.text.specs.Text.{ascii, type_name}
 
-pub length-name : (type : ℕ) → length (typeName type) ≤ 8
-unfolding typeName ascii
-length-name type = go (eqb type 1) (eqb type 2) (eqb type 3) (eqb type 4)
+pub length_name : (type : ℕ) → length (type_name type) ≤ 8
+unfolding type_name ascii
+length_name type = go (eqb type 1) (eqb type 2) (eqb type 3) (eqb type 4)
   where
     go : (a b c d : Bool) → length (cond a (ascii "normal1") (cond b (ascii "normal2") (cond c (ascii "extended") (cond d (ascii "sync") (ascii "none"))))) ≤ 8
     go true b c d = omega arith

@@ -7,22 +7,22 @@ use native.Mathlib.Omega.{arith}
 use native.Mathlib.Numerals.{add-one}
 use lib.ListN.{get_or, length, set, take, length-map, get_or-map}
 use lib.Seq.{paste, take-paste, take_all, take-suc, take-suc-set, take-take, take-append-le, take-append-add, length-take-le}
-use Rattle.dsp_types.proofs.RingLaws.{le-or-lt}
-use Rattle.text.specs.Text.{cut, characterOf}
+use Rattle.dsp_types.proofs.RingLaws.{le_or_lt}
+use Rattle.text.specs.Text.{cut, character_of}
 
 -- no more than a list has
-take-least : {A : Type 0} (l : List A) (n : ℕ) → take (min (length l) n) l ≡ take n l
-take-least l n =
+take_least : {A : Type 0} (l : List A) (n : ℕ) → take (min (length l) n) l ≡ take n l
+take_least l n =
     ⊎_elim
     (λ (h : length l ≤ n). let e : min (length l) n ≡ length l = omega arith in rw e (take_all (length l) l (omega arith) ∙ sym (take_all n l h)))
     (λ (h : n < length l). let e : min (length l) n ≡ n = omega arith in rw e)
-    (le-or-lt (length l) n)
+    (le_or_lt (length l) n)
 
 module _ (bytes s : List ℕ) (n len count : ℕ) (h : length bytes ≡ 2048) (l : len ≡ min n 2048) (c : count ≡ min (length s) (2048 - len)) where
   held : take len bytes ≡ take n bytes
   held =
       let e : len ≡ min (length bytes) n = omega arith in
-      rw e (take-least bytes n)
+      rw e (take_least bytes n)
 
   pub appended : (w : List ℕ) → w ≡ paste bytes len s count → take (len + count) w ≡ cut (take n bytes ++ s)
   unfolding cut
@@ -31,20 +31,20 @@ module _ (bytes s : List ℕ) (n len count : ℕ) (h : length bytes ≡ 2048) (l
       let m : 2048 ≡ length (take len bytes) + (2048 - len) = omega (arith, k) in
       ap (take (len + count)) e
       ∙ take-paste bytes len s count (omega arith) (omega arith)
-      ∙ rw (← held, c, take-least s (2048 - len)) (sym (ap (λ (x : ℕ). take x (take len bytes ++ s)) m ∙ take-append-add (take len bytes) s (2048 - len)))
+      ∙ rw (← held, c, take_least s (2048 - len)) (sym (ap (λ (x : ℕ). take x (take len bytes ++ s)) m ∙ take-append-add (take len bytes) s (2048 - len)))
 
 pub counted : (w : List ℕ) (n : ℕ) → length w ≡ 2048 → n ≤ 2048 → n ≡ length (take n w)
 counted w n h l = sym (length-take-le n w (omega arith))
 
 -- bytes that are cut off need not be there
-pub cut-least : (t s : List ℕ) (n : ℕ) → n ≡ min (length s) 2048 → cut (t ++ take n s) ≡ cut (t ++ s)
+pub cut_least : (t s : List ℕ) (n : ℕ) → n ≡ min (length s) 2048 → cut (t ++ take n s) ≡ cut (t ++ s)
 unfolding cut
-cut-least t s n e =
-    rw (e, take-least s 2048)
+cut_least t s n e =
+    rw (e, take_least s 2048)
     (⊎_elim
     (λ (h : length t ≤ 2048). seam (take 2048 s) h ∙ ap (λ (r : List ℕ). t ++ r) (take-take (2048 - length t) 2048 s (omega arith)) ∙ sym (seam s h))
     (λ (h : 2048 < length t). take-append-le 2048 t (take 2048 s) (omega arith) ∙ sym (take-append-le 2048 t s (omega arith)))
-    (le-or-lt (length t) 2048))
+    (le_or_lt (length t) 2048))
   where
     seam : (r : List ℕ) → length t ≤ 2048 → take 2048 (t ++ r) ≡ t ++ take (2048 - length t) r
     seam r h =
@@ -52,9 +52,9 @@ cut-least t s n e =
         ap (λ (x : ℕ). take x (t ++ r)) m ∙ take-append-add t r (2048 - length t)
 
 -- a character more
-pub character-turn : (bits w : List ℕ) (i x : ℕ) → i < length bits → i < length w → x ≡ characterOf (get_or bits i 0) → take i w ≡ take i (map characterOf bits)
-    → take (i + 1) (set w i x) ≡ take (i + 1) (map characterOf bits)
-unfolding characterOf
-character-turn bits w i x h k e inv =
-    rw (add-one i, take-suc-set w i x k, take-suc (map characterOf bits) i 48 (omega (arith, length-map bits characterOf)), inv, e)
-    (ap (λ (c : ℕ). take i (map characterOf bits) ++ (c ∷ [])) (sym (get_or-map characterOf bits i 0)))
+pub character_turn : (bits w : List ℕ) (i x : ℕ) → i < length bits → i < length w → x ≡ character_of (get_or bits i 0) → take i w ≡ take i (map character_of bits)
+    → take (i + 1) (set w i x) ≡ take (i + 1) (map character_of bits)
+unfolding character_of
+character_turn bits w i x h k e inv =
+    rw (add-one i, take-suc-set w i x k, take-suc (map character_of bits) i 48 (omega (arith, length-map bits character_of)), inv, e)
+    (ap (λ (c : ℕ). take i (map character_of bits) ++ (c ∷ [])) (sym (get_or-map character_of bits i 0)))

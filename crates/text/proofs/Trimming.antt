@@ -12,36 +12,36 @@ above : (l : List ℕ) → (length l ≡ 0 → ⊥) → 0 < length l
 above [] h = absurd (h refl)
 above (x ∷ l) h = omega arith
 
-last-split : (l : List ℕ) → 0 < length l → l ≡ take (length l - 1) l ++ (get_or l (length l - 1) 0 ∷ [])
-last-split l h =
+last_split : (l : List ℕ) → 0 < length l → l ≡ take (length l - 1) l ++ (get_or l (length l - 1) 0 ∷ [])
+last_split l h =
     split_at l (length l - 1) 0 (omega arith)
     ∙ ap (λ (r : List ℕ). take (length l - 1) l ++ (get_or l (length l - 1) 0 ∷ r)) (drop_of_length-le l {i = suc (length l - 1)} (omega arith))
 
 module _ (c : ℕ) where
-  pub trimmed-append : (xs : List ℕ) (d : ℕ) (t : List ℕ) → trimmed c (xs ++ (d ∷ t)) ≡ xs ++ trimmed c (d ∷ t)
+  pub trimmed_append : (xs : List ℕ) (d : ℕ) (t : List ℕ) → trimmed c (xs ++ (d ∷ t)) ≡ xs ++ trimmed c (d ∷ t)
   unfolding trimmed
-  trimmed-append [] d t = refl
-  trimmed-append (x ∷ []) d t = refl
-  trimmed-append (x ∷ y ∷ xs) d t = ap (λ (r : List ℕ). x ∷ r) (trimmed-append (y ∷ xs) d t)
+  trimmed_append [] d t = refl
+  trimmed_append (x ∷ []) d t = refl
+  trimmed_append (x ∷ y ∷ xs) d t = ap (λ (r : List ℕ). x ∷ r) (trimmed_append (y ∷ xs) d t)
 
-  pub trimmed-length : (xs : List ℕ) → length xs ≤ suc (length (trimmed c xs))
+  pub trimmed_length : (xs : List ℕ) → length xs ≤ suc (length (trimmed c xs))
   unfolding trimmed
-  trimmed-length [] = omega arith
-  trimmed-length (x ∷ []) = omega arith
-  trimmed-length (x ∷ y ∷ xs) = omega (arith, trimmed-length (y ∷ xs))
+  trimmed_length [] = omega arith
+  trimmed_length (x ∷ []) = omega arith
+  trimmed_length (x ∷ y ∷ xs) = omega (arith, trimmed_length (y ∷ xs))
 
   trim : (l : List ℕ) → 0 < length l → trimmed c l ≡ take (length l - 1) l ++ trimmed c (get_or l (length l - 1) 0 ∷ [])
-  trim l h = ap (trimmed c) (last-split l h) ∙ trimmed-append (take (length l - 1) l) (get_or l (length l - 1) 0) []
+  trim l h = ap (trimmed c) (last_split l h) ∙ trimmed_append (take (length l - 1) l) (get_or l (length l - 1) 0) []
 
-  pub trim-none : (l : List ℕ) → length l ≡ 0 → l ≡ trimmed c l
+  pub trim_none : (l : List ℕ) → length l ≡ 0 → l ≡ trimmed c l
   unfolding trimmed
-  trim-none [] e = refl
-  trim-none (x ∷ l) e = absurd (omega arith)
+  trim_none [] e = refl
+  trim_none (x ∷ l) e = absurd (omega arith)
 
-  pub trim-last : (l : List ℕ) → (length l ≡ 0 → ⊥) → get_or l (length l - 1) 0 ≡ c → take (length l - 1) l ≡ trimmed c l
+  pub trim_last : (l : List ℕ) → (length l ≡ 0 → ⊥) → get_or l (length l - 1) 0 ≡ c → take (length l - 1) l ≡ trimmed c l
   unfolding trimmed
-  trim-last l h e = sym (trim l (above l h) ∙ rw (eq-eqb (get_or l (length l - 1) 0) c e) (append-nil (take (length l - 1) l)))
+  trim_last l h e = sym (trim l (above l h) ∙ rw (eq-eqb (get_or l (length l - 1) 0) c e) (append-nil (take (length l - 1) l)))
 
-  pub trim-other : (l : List ℕ) → (length l ≡ 0 → ⊥) → (get_or l (length l - 1) 0 ≡ c → ⊥) → l ≡ trimmed c l
+  pub trim_other : (l : List ℕ) → (length l ≡ 0 → ⊥) → (get_or l (length l - 1) 0 ≡ c → ⊥) → l ≡ trimmed c l
   unfolding trimmed
-  trim-other l h e = sym (trim l (above l h) ∙ rw (ne_eqb (get_or l (length l - 1) 0) c e) (sym (last-split l (above l h))))
+  trim_other l h e = sym (trim l (above l h) ∙ rw (ne_eqb (get_or l (length l - 1) 0) c e) (sym (last_split l (above l h))))

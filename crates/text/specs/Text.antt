@@ -19,12 +19,12 @@ decimal zero n = []
 decimal (suc k) n = cond (ltb n 10) (digit n ∷ []) (decimal k (n / 10) ++ (digit (n % 10) ∷ []))
 
 -- the character of a bit
-unfoldable pub characterOf : ℕ → ℕ
-characterOf bit = cond (eqb bit 0) 48 49
+unfoldable pub character_of : ℕ → ℕ
+character_of bit = cond (eqb bit 0) 48 49
 
 -- a burst type's name (01, "Slot bits and burst views": 0 none, 1 normal 1, 2 normal 2, 3 extended, 4 sync)
-unfoldable pub typeName : ℕ → List ℕ
-typeName type =
+unfoldable pub type_name : ℕ → List ℕ
+type_name type =
     cond (eqb type 1) (ascii "normal1")
     (cond (eqb type 2) (ascii "normal2")
     (cond (eqb type 3) (ascii "extended")

@@ -2,7 +2,7 @@
 #![tactic(auto)]
 
 ghost use Rattle.std.specs.Prelude.{◌≡◌, [], ◌++◌, map, ◌≤◌, length, take};
-ghost use Rattle.text.specs.Text.{text_of, cut, decimal, characterOf, typeName, trimmed};
+ghost use Rattle.text.specs.Text.{text_of, cut, decimal, character_of, type_name, trimmed};
 
 use dsp_types::least;
 use streams::Host;
@@ -42,7 +42,7 @@ pub fn trimmed(bytes: &[u8], c: u8) -> &[u8]
 
 // The character of a bit.
 fn character_of(bit: u8) -> u8
-    ensures { result ≡ characterOf bit }
+    ensures { result ≡ character_of bit }
 {
     if bit == 0 { b'0' } else { b'1' }
 }
@@ -87,7 +87,7 @@ impl Text {
 
     // With the characters of bits behind it.
     pub fn bits(self, bits: &[u8]) -> Text
-        ensures result_value { text_of result ≡ cut (text_of self ++ map characterOf bits.now) }
+        ensures result_value { text_of result ≡ cut (text_of self ++ map character_of bits.now) }
         ensures len_bound { (result.len ≤ 2048) × (result.len ≡ length (text_of result)) }
     {
         let mut characters = [0u8; 2048];
@@ -100,7 +100,7 @@ impl Text {
 
     // With a burst type's name behind it.
     pub fn type_name(self, burst_type: u32) -> Text
-        ensures result_value { text_of result ≡ cut (text_of self ++ typeName burst_type) }
+        ensures result_value { text_of result ≡ cut (text_of self ++ type_name burst_type) }
         ensures len_bound { (result.len ≤ 2048) × (result.len ≡ length (text_of result)) }
     {
         match burst_type {

@@ -12,28 +12,28 @@ use lib.Ieee.Fits.{neg-fits, down_pos}
 use lib.Ieee.Bits.{of_bits-fits}
 use lib.Ieee.Back.{whole_unique}
 use lib.Ieee.Scale.{finite}
-use Rattle.dsp_types.specs.Samples.{zeroF, oneF}
-use Rattle.timing.specs.Floats.{twoF}
-use Rattle.timing.specs.Turns.{absoluteOf, whole_of}
+use Rattle.dsp_types.specs.Samples.{zero_f, one_f}
+use Rattle.timing.specs.Floats.{two_f}
+use Rattle.timing.specs.Turns.{absolute_of, whole_of}
 
 and_first : (a b : Bool) → (a && b) ≡ true → a ≡ true
 and_first true b h = refl
 and_first false b h = h
 
 -- ---- `absolute`: below 0 the sign goes, a zero has none, and nothing else has one
-pub negative-case : (x : Float) → lt x zeroF ≡ true → neg x ≡ absoluteOf x
-unfolding lt neg absoluteOf of_bits
-negative-case nan h = absurd (false≢true h)
-negative-case (inf true) h = refl
-negative-case (inf false) h = absurd (false≢true h)
-negative-case (fin true m e) h = refl
-negative-case (fin false m e) h = absurd (false≢true (sym (le-ltb (m * up e * 1) (0 * down e) (omega (arith, zero-mul (down e)))) ∙ h))
+pub negative_case : (x : Float) → lt x zero_f ≡ true → neg x ≡ absolute_of x
+unfolding lt neg absolute_of of_bits
+negative_case nan h = absurd (false≢true h)
+negative_case (inf true) h = refl
+negative_case (inf false) h = absurd (false≢true h)
+negative_case (fin true m e) h = refl
+negative_case (fin false m e) h = absurd (false≢true (sym (le-ltb (m * up e * 1) (0 * down e) (omega (arith, zero-mul (down e)))) ∙ h))
 
-pub zero-case : (x : Float) → T (fits binary32 x) → eq x zeroF ≡ true → zeroF ≡ absoluteOf x
-unfolding eq neg absoluteOf of_bits
-zero-case nan f h = absurd (false≢true h)
-zero-case (inf s) f h = absurd (false≢true h)
-zero-case (fin s m e) f h =
+pub zero_case : (x : Float) → T (fits binary32 x) → eq x zero_f ≡ true → zero_f ≡ absolute_of x
+unfolding eq neg absolute_of of_bits
+zero_case nan f h = absurd (false≢true h)
+zero_case (inf s) f h = absurd (false≢true h)
+zero_case (fin s m e) f h =
     let level : m * up e * 1 ≡ 0 * down e = eqb-true (m * up e * 1) (0 * down e) (and_first (eqb (m * up e * 1) (0 * down e)) (beq s false || eqb (m * up e * 1) 0) h) in
     whole_unique binary32 (fin false 0 (pos 0)) (fin false m e) false 0 (of_bits-fits binary32 0) (without_sign s f) (refl, refl) (refl, level)
   where
@@ -41,39 +41,39 @@ zero-case (fin s m e) f h =
     without_sign true h = neg-fits binary32 (fin true m e) h
     without_sign false h = h
 
-pub positive-case : (x : Float) → lt x zeroF ≡ false → eq x zeroF ≡ false → x ≡ absoluteOf x
-unfolding lt eq absoluteOf of_bits
-positive-case nan h k = refl
-positive-case (inf true) h k = absurd (true≢false h)
-positive-case (inf false) h k = refl
-positive-case (fin false m e) h k = refl
-positive-case (fin true m e) h k =
+pub positive_case : (x : Float) → lt x zero_f ≡ false → eq x zero_f ≡ false → x ≡ absolute_of x
+unfolding lt eq absolute_of of_bits
+positive_case nan h k = refl
+positive_case (inf true) h k = absurd (true≢false h)
+positive_case (inf false) h k = refl
+positive_case (fin false m e) h k = refl
+positive_case (fin true m e) h k =
     let none : m * up e * 1 + 0 * down e ≤ 0 = ltb-false 0 (m * up e * 1 + 0 * down e) h in
     let size : m * up e * 1 ≡ 0 = omega arith in
     let other : 0 * down e ≡ 0 = omega arith in
     absurd (true≢false (sym (rw (size, other)) ∙ k))
 
-pub finite-is : (x : Float) → lt (absoluteOf x) (of_bits binary32 0x7f80_0000) ≡ finite x
-unfolding lt absoluteOf of_bits
-finite-is nan = refl
-finite-is (inf s) = refl
-finite-is (fin s m e) = refl
+pub finite_is : (x : Float) → lt (absolute_of x) (of_bits binary32 0x7f80_0000) ≡ finite x
+unfolding lt absolute_of of_bits
+finite_is nan = refl
+finite_is (inf s) = refl
+finite_is (fin s m e) = refl
 
 -- ---- `whole`: how many of 1, 2 and 3 a float reaches
-abbrev threeF : Float
-threeF = of_bits binary32 0x4040_0000
+abbrev three_f : Float
+three_f = of_bits binary32 0x4040_0000
 
 -- `le` of two values that are not negative, and of one above 0 and one that is not
-le-plus : (a b : ℕ) → (ltb a b || (eqb a b && true)) ≡ leb a b
-le-plus a b = go (ltb a b) refl (eqb a b) refl
+le_plus : (a b : ℕ) → (ltb a b || (eqb a b && true)) ≡ leb a b
+le_plus a b = go (ltb a b) refl (eqb a b) refl
   where
     go : (p : Bool) → ltb a b ≡ p → (q : Bool) → eqb a b ≡ q → (p || (q && true)) ≡ leb a b
     go true e q f = sym (le-leb a b (omega (arith, ltb-true a b e)))
     go false e true f = sym (le-leb a b (omega (arith, eqb-true a b f)))
     go false e false f = let g : b ≤ a = ltb-false a b e in let h : a ≡ b → ⊥ = eqb-false a b f in sym (lt-leb a b (omega arith))
 
-le-minus : (a b : ℕ) → 0 < a → (false || (eqb a b && (false || eqb a 0))) ≡ false
-le-minus a b h = rw (ne_eqb a 0 (λ e. omega arith)) (either (eqb a b))
+le_minus : (a b : ℕ) → 0 < a → (false || (eqb a b && (false || eqb a 0))) ≡ false
+le_minus a b h = rw (ne_eqb a 0 (λ e. omega arith)) (either (eqb a b))
   where
     either : (p : Bool) → (p && false) ≡ false
     either true = refl
@@ -95,22 +95,22 @@ counted n = go (leb 3 n) refl (leb 2 n) refl (leb 1 n) refl
     go false e false f true g = omega (arith, leb-false 2 n f, leb-true 1 n g)
     go false e false f false g = omega (arith, leb-false 1 n g)
 
-pub whole-tests : (t : Float) → whole_of t ≡ cond (le threeF t) 3 (cond (le twoF t) 2 (cond (le oneF t) 1 0))
+pub whole_tests : (t : Float) → whole_of t ≡ cond (le three_f t) 3 (cond (le two_f t) 2 (cond (le one_f t) 1 0))
 unfolding whole_of to_unsigned le of_bits
-whole-tests nan = refl
-whole-tests (inf true) = refl
-whole-tests (inf false) = refl
-whole-tests (fin true m e) =
+whole_tests nan = refl
+whole_tests (inf true) = refl
+whole_tests (inf false) = refl
+whole_tests (fin true m e) =
     rw (
-      le-minus (3 * down e) (m * up e * 1) (mul-pos (zero-lt-suc 2) (down_pos e)),
-      le-minus (2 * down e) (m * up e * 1) (mul-pos (zero-lt-suc 1) (down_pos e)),
-      le-minus (1 * down e) (m * up e * 1) (mul-pos (zero-lt-suc 0) (down_pos e)),
+      le_minus (3 * down e) (m * up e * 1) (mul-pos (zero-lt-suc 2) (down_pos e)),
+      le_minus (2 * down e) (m * up e * 1) (mul-pos (zero-lt-suc 1) (down_pos e)),
+      le_minus (1 * down e) (m * up e * 1) (mul-pos (zero-lt-suc 0) (down_pos e)),
     )
-whole-tests (fin false m e) =
+whole_tests (fin false m e) =
     rw (
-      le-plus (3 * down e) (m * up e * 1),
-      le-plus (2 * down e) (m * up e * 1),
-      le-plus (1 * down e) (m * up e * 1),
+      le_plus (3 * down e) (m * up e * 1),
+      le_plus (2 * down e) (m * up e * 1),
+      le_plus (1 * down e) (m * up e * 1),
       reached 3 (m * up e) (down e) (down_pos e),
       reached 2 (m * up e) (down e) (down_pos e),
       reached 1 (m * up e) (down e) (down_pos e),

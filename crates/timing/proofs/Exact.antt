@@ -11,106 +11,106 @@ use lib.Ieee.{Float, nan, inf, fin, binary32, up, down, neg, div, lt, eq, of_bit
 use lib.Ieee.Fits.{up_pos, down_pos}
 use lib.Ieee.Positive.{positive}
 use lib.Ieee.Scale.{round_same}
-use Rattle.dsp_types.specs.Samples.{zeroF, oneF}
-use Rattle.timing.specs.Floats.{halfF}
-use Rattle.timing.specs.Turns.{absoluteOf, octantOf, quadrantOf, directed, quarterTurns}
+use Rattle.dsp_types.specs.Samples.{zero_f, one_f}
+use Rattle.timing.specs.Floats.{half_f}
+use Rattle.timing.specs.Turns.{absolute_of, octant_of, quadrant_of, directed, quarter_turns}
 use Rattle.timing.specs.Document.{ExactAt}
 
-turned : (i q : Float) (a b : Bool) (u : Float) → directed i q ≡ true → lt i zeroF ≡ a → lt q zeroF ≡ b → octantOf (absoluteOf i) (absoluteOf q) ≡ u → quarterTurns i q ≡ quadrantOf a b u
-unfolding quarterTurns
+turned : (i q : Float) (a b : Bool) (u : Float) → directed i q ≡ true → lt i zero_f ≡ a → lt q zero_f ≡ b → octant_of (absolute_of i) (absolute_of q) ≡ u → quarter_turns i q ≡ quadrant_of a b u
+unfolding quarter_turns
 turned i q a b u d l k o = rw (d, l, k, o)
 
 -- ---- x is m · 2 ^ e, above 0
 module _ (m : ℕ) (e : ℤ) (h : 0 < m) where
-  size-pos : 0 < m * up e
-  size-pos = mul-pos h (up_pos e)
+  size_pos : 0 < m * up e
+  size_pos = mul-pos h (up_pos e)
 
   -- the tests
-  not-below : lt (fin false m e) zeroF ≡ false
+  not_below : lt (fin false m e) zero_f ≡ false
   unfolding lt of_bits
-  not-below = le-ltb (m * up e * 1) (0 * down e) (omega (arith, zero-mul (down e)))
+  not_below = le-ltb (m * up e * 1) (0 * down e) (omega (arith, zero-mul (down e)))
 
-  neg-below : lt (fin true m e) zeroF ≡ true
+  neg_below : lt (fin true m e) zero_f ≡ true
   unfolding lt of_bits
-  neg-below = lt-ltb 0 (m * up e * 1 + 0 * down e) (omega (arith, size-pos))
+  neg_below = lt-ltb 0 (m * up e * 1 + 0 * down e) (omega (arith, size_pos))
 
-  above : lt zeroF (fin false m e) ≡ true
+  above : lt zero_f (fin false m e) ≡ true
   unfolding lt of_bits
-  above = lt-ltb (0 * down e) (m * up e * 1) (omega (arith, zero-mul (down e), size-pos))
+  above = lt-ltb (0 * down e) (m * up e * 1) (omega (arith, zero-mul (down e), size_pos))
 
   not_itself : lt (fin false m e) (fin false m e) ≡ false
   unfolding lt
   not_itself = le-ltb (m * up e * down e) (m * up e * down e) (omega arith)
 
-  not-zero : (s : Bool) → eq (fin s m e) zeroF ≡ false
+  not_zero : (s : Bool) → eq (fin s m e) zero_f ≡ false
   unfolding eq of_bits
-  not-zero s = rw (ne_eqb (m * up e * 1) (0 * down e) (λ z. omega (arith, zero-mul (down e), size-pos)))
+  not_zero s = rw (ne_eqb (m * up e * 1) (0 * down e) (λ z. omega (arith, zero-mul (down e), size_pos)))
 
-  both-directed : (s t : Bool) → directed (fin s m e) (fin t m e) ≡ true
+  both_directed : (s t : Bool) → directed (fin s m e) (fin t m e) ≡ true
   unfolding directed
-  both-directed s t = rw (not-zero s)
+  both_directed s t = rw (not_zero s)
 
-  first-directed : (s : Bool) → directed (fin s m e) zeroF ≡ true
+  first_directed : (s : Bool) → directed (fin s m e) zero_f ≡ true
   unfolding directed of_bits
-  first-directed s = rw (not-zero s)
+  first_directed s = rw (not_zero s)
 
-  second-directed : (s : Bool) → directed zeroF (fin s m e) ≡ true
+  second_directed : (s : Bool) → directed zero_f (fin s m e) ≡ true
   unfolding directed of_bits
-  second-directed s = rw (not-zero s)
+  second_directed s = rw (not_zero s)
 
   -- z is 1 on a diagonal and 0 on an axis
-  over-itself : div binary32 (fin false m e) (fin false m e) ≡ oneF
+  over_itself : div binary32 (fin false m e) (fin false m e) ≡ one_f
   unfolding div of_bits
-  over-itself =
+  over_itself =
       rw (ne_eqb m 0 (λ z. omega arith))
-      (round_same binary32 false (m * up e * down e) (m * up e * down e) 1 1 (mul-pos size-pos (down_pos e)) (zero-lt-suc 0) (omega arith))
+      (round_same binary32 false (m * up e * down e) (m * up e * down e) 1 1 (mul-pos size_pos (down_pos e)) (zero-lt-suc 0) (omega arith))
 
-  zero-over : div binary32 zeroF (fin false m e) ≡ zeroF
+  zero_over : div binary32 zero_f (fin false m e) ≡ zero_f
   unfolding div of_bits
-  zero-over =
+  zero_over =
       rw (ne_eqb m 0 (λ z. omega arith))
-      (round_same binary32 false (0 * down e) (m * up e * 1) 0 1 (mul-pos size-pos (zero-lt-suc 0)) (zero-lt-suc 0) (omega (arith, zero-mul (down e))))
+      (round_same binary32 false (0 * down e) (m * up e * 1) 0 1 (mul-pos size_pos (zero-lt-suc 0)) (zero-lt-suc 0) (omega (arith, zero-mul (down e))))
 
   -- so u is 0.5, 0 or 1
-  diagonal : octantOf (fin false m e) (fin false m e) ≡ halfF
-  unfolding octantOf of_bits
-  diagonal = rw (not_itself, over-itself)
+  diagonal : octant_of (fin false m e) (fin false m e) ≡ half_f
+  unfolding octant_of of_bits
+  diagonal = rw (not_itself, over_itself)
 
-  along : octantOf (fin false m e) zeroF ≡ zeroF
-  unfolding octantOf of_bits
-  along = rw (not-below, zero-over)
+  along : octant_of (fin false m e) zero_f ≡ zero_f
+  unfolding octant_of of_bits
+  along = rw (not_below, zero_over)
 
-  across : octantOf zeroF (fin false m e) ≡ oneF
-  unfolding octantOf of_bits
-  across = rw (above, zero-over)
+  across : octant_of zero_f (fin false m e) ≡ one_f
+  unfolding octant_of of_bits
+  across = rw (above, zero_over)
 
-  zero-not-below : lt zeroF zeroF ≡ false
+  zero_not_below : lt zero_f zero_f ≡ false
   unfolding lt of_bits
-  zero-not-below = refl
+  zero_not_below = refl
 
-  exact-at : ExactAt (fin false m e)
-  unfolding quadrantOf absoluteOf neg of_bits
-  exact-at =
+  exact_at : ExactAt (fin false m e)
+  unfolding quadrant_of absolute_of neg of_bits
+  exact_at =
       let x = fin false m e in
       let y = fin true m e in
       record {
-        at-0 = turned x zeroF false false zeroF (first-directed false) not-below zero-not-below along;
-        at_1 = turned x x false false halfF (both-directed false false) not-below not-below diagonal;
-        at-2 = turned zeroF x false false oneF (second-directed false) zero-not-below not-below across;
-        at-3 = turned y x true false halfF (both-directed true false) neg-below not-below diagonal;
-        at-4 = turned y zeroF true false zeroF (first-directed true) neg-below zero-not-below along;
-        at_5 = turned y y true true halfF (both-directed true true) neg-below neg-below diagonal;
-        at-6 = turned zeroF y false true oneF (second-directed true) zero-not-below neg-below across;
-        at_7 = turned x y false true halfF (both-directed false true) not-below neg-below diagonal;
+        at_0 = turned x zero_f false false zero_f (first_directed false) not_below zero_not_below along;
+        at_1 = turned x x false false half_f (both_directed false false) not_below not_below diagonal;
+        at_2 = turned zero_f x false false one_f (second_directed false) zero_not_below not_below across;
+        at_3 = turned y x true false half_f (both_directed true false) neg_below not_below diagonal;
+        at_4 = turned y zero_f true false zero_f (first_directed true) neg_below zero_not_below along;
+        at_5 = turned y y true true half_f (both_directed true true) neg_below neg_below diagonal;
+        at_6 = turned zero_f y false true one_f (second_directed true) zero_not_below neg_below across;
+        at_7 = turned x y false true half_f (both_directed false true) not_below neg_below diagonal;
       }
 
-pub exact-law : (x : Float) → T (positive x) → ExactAt x
-exact-law nan p = absurd p
-exact-law (inf s) p = absurd p
-exact-law (fin true m e) p = absurd p
-exact-law (fin false m e) p = exact-at m e (ltb→lt 0 m p)
+pub exact_law : (x : Float) → T (positive x) → ExactAt x
+exact_law nan p = absurd p
+exact_law (inf s) p = absurd p
+exact_law (fin true m e) p = absurd p
+exact_law (fin false m e) p = exact_at m e (ltb→lt 0 m p)
 
 -- 01's figure for a result that rounds to 4: (1, −2 ^ -30)
-pub wraps : quarterTurns oneF (of_bits binary32 0xb080_0000) ≡ zeroF
-unfolding quarterTurns of_bits
+pub wraps : quarter_turns one_f (of_bits binary32 0xb080_0000) ≡ zero_f
+unfolding quarter_turns of_bits
 wraps = refl

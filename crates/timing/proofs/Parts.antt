@@ -9,11 +9,11 @@ use lib.Ieee.Casts.{to_unsigned-lt}
 use Rattle.timing.specs.Turns.{whole_of}
 use Rattle.timing.specs.Document.{InTurn}
 
-pub whole-lt : (t : Float) → whole_of t < 4
+pub whole_lt : (t : Float) → whole_of t < 4
 unfolding whole_of
-whole-lt t = to_unsigned-lt 2 t
+whole_lt t = to_unsigned-lt 2 t
 
 -- what `InTurn` says of the fraction
-pub under-four : (m : ℕ) (e : ℤ) → InTurn (fin false m e) → m * up e < 4 * down e
+pub under_four : (m : ℕ) (e : ℤ) → InTurn (fin false m e) → m * up e < 4 * down e
 unfolding lt of_bits
-under-four m e h = omega (arith, ltb-true (m * up e * 1) (4 * down e) h.below-four)
+under_four m e h = omega (arith, ltb-true (m * up e * 1) (4 * down e) h.below_four)

@@ -49,72 +49,72 @@ le_split a b t = go (ltb a b) refl (eqb a b) refl t
     go false e true f t = le_of_eq (eqb-true a b f)
     go false e false f t = absurd t
 
-size-of-le : (x k : Float) (g l a b : ℕ) → HasValue x false g l → HasValue k false a b → T (le x k) → Size x false a b
+size_of_le : (x k : Float) (g l a b : ℕ) → HasValue x false g l → HasValue k false a b → T (le x k) → Size x false a b
 unfolding le
-size-of-le nan k g l a b p q h = absurd p
-size-of-le (inf s) k g l a b p q h = absurd p
-size-of-le (fin true m e) k g l a b p q h = absurd (true≢false p.0)
-size-of-le (fin false m e) nan g l a b p q h = absurd q
-size-of-le (fin false m e) (inf t) g l a b p q h = absurd q
-size-of-le (fin false m e) (fin true n f) g l a b p q h = absurd (true≢false q.0)
-size-of-le (fin false m e) (fin false n f) g l a b p q h =
+size_of_le nan k g l a b p q h = absurd p
+size_of_le (inf s) k g l a b p q h = absurd p
+size_of_le (fin true m e) k g l a b p q h = absurd (true≢false p.0)
+size_of_le (fin false m e) nan g l a b p q h = absurd q
+size_of_le (fin false m e) (inf t) g l a b p q h = absurd q
+size_of_le (fin false m e) (fin true n f) g l a b p q h = absurd (true≢false q.0)
+size_of_le (fin false m e) (fin false n f) g l a b p q h =
     (refl, through (m * up e) (n * up f) a (down e) (down f) b (down_pos f) (le_split (m * up e * down f) (n * up f * down e) h) (le_of_eq q.1))
 
-finite-between : (x k : Float) (a b : ℕ) → HasValue k false a b → T (le (fin false 0 (pos 0)) x) → T (le x k) → T (finite x)
+finite_between : (x k : Float) (a b : ℕ) → HasValue k false a b → T (le (fin false 0 (pos 0)) x) → T (le x k) → T (finite x)
 unfolding le
-finite-between nan k a b q lo hi = absurd lo
-finite-between (inf true) k a b q lo hi = absurd lo
-finite-between (inf false) nan a b q lo hi = absurd q
-finite-between (inf false) (inf t) a b q lo hi = absurd q
-finite-between (inf false) (fin t n f) a b q lo hi = absurd hi
-finite-between (fin s m e) k a b q lo hi = tt
+finite_between nan k a b q lo hi = absurd lo
+finite_between (inf true) k a b q lo hi = absurd lo
+finite_between (inf false) nan a b q lo hi = absurd q
+finite_between (inf false) (inf t) a b q lo hi = absurd q
+finite_between (inf false) (fin t n f) a b q lo hi = absurd hi
+finite_between (fin s m e) k a b q lo hi = tt
 
-round-zero : round binary32 false 0 1 ≡ fin false 0 (pos 0)
+round_zero : round binary32 false 0 1 ≡ fin false 0 (pos 0)
 unfolding round
-round-zero = refl
+round_zero = refl
 
-round-size : (a c k l : ℕ) → 0 < c → 0 < l → Holds k l → a * l ≤ k * c → Size (round binary32 false a c) false k l
-round-size a c k l C L K h =
+round_size : (a c k l : ℕ) → 0 < c → 0 < l → Holds k l → a * l ≤ k * c → Size (round binary32 false a c) false k l
+round_size a c k l C L K h =
     let x = round binary32 false a c in
     let hi : T (le x (round binary32 false k l)) = round_mono binary32 a c k l C L h in
-    let lo : T (le (fin false 0 (pos 0)) x) = rw round-zero at (round_mono binary32 0 1 a c (zero-lt-suc 0) C (le_trans (le_of_eq (zero-mul c)) zero-le)) in
-    size-of-le x (round binary32 false k l) (grid binary32 a c) (2 ^ 149) k l
-    (round_val binary32 a c (round_under binary32 a c (finite-between x (round binary32 false k l) k l K lo hi))) K hi
+    let lo : T (le (fin false 0 (pos 0)) x) = rw round_zero at (round_mono binary32 0 1 a c (zero-lt-suc 0) C (le_trans (le_of_eq (zero-mul c)) zero-le)) in
+    size_of_le x (round binary32 false k l) (grid binary32 a c) (2 ^ 149) k l
+    (round_val binary32 a c (round_under binary32 a c (finite_between x (round binary32 false k l) k l K lo hi))) K hi
 
 -- ---- a negative fraction rounds as the positive one does
-units-neg : (q k : ℕ) → units binary32 true q k ≡ neg (units binary32 false q k)
+units_neg : (q k : ℕ) → units binary32 true q k ≡ neg (units binary32 false q k)
 unfolding units odd neg
-units-neg q k = go (ltb (q * 2 ^ k) (2 ^ 277))
+units_neg q k = go (ltb (q * 2 ^ k) (2 ^ 277))
   where
-    odd-neg : (q : ℕ) → odd 25 true q k 149 ≡ neg (odd 25 false q k 149)
-    odd-neg zero = refl
-    odd-neg (suc q) = refl
+    odd_neg : (q : ℕ) → odd 25 true q k 149 ≡ neg (odd 25 false q k 149)
+    odd_neg zero = refl
+    odd_neg (suc q) = refl
 
     go : (b : Bool) → cond b (odd 25 true q k 149) (inf true) ≡ neg (cond b (odd 25 false q k 149) (inf false))
-    go true = odd-neg q
+    go true = odd_neg q
     go false = refl
 
-round-neg : (a c : ℕ) → round binary32 true a c ≡ neg (round binary32 false a c)
-round-neg a c =
+round_neg : (a c : ℕ) → round binary32 true a c ≡ neg (round binary32 false a c)
+round_neg a c =
     round_is binary32 true a c
-    ∙ units-neg (kept 24 (a * 2 ^ 149) c) (drop 24 (a * 2 ^ 149) c)
+    ∙ units_neg (kept 24 (a * 2 ^ 149) c) (drop 24 (a * 2 ^ 149) c)
     ∙ ap neg (sym (round_is binary32 false a c))
 
-neg-size : (x : Float) (s : Bool) (a b : ℕ) → Size x s a b → Size (neg x) (not s) a b
+neg_size : (x : Float) (s : Bool) (a b : ℕ) → Size x s a b → Size (neg x) (not s) a b
 unfolding neg
-neg-size nan s a b w = w
-neg-size (inf t) s a b w = w
-neg-size (fin t m e) s a b w = (ap not w.0, w.1)
+neg_size nan s a b w = w
+neg_size (inf t) s a b w = w
+neg_size (fin t m e) s a b w = (ap not w.0, w.1)
 
-pub neg-within : {x : Float} {s : Bool} {a b : ℕ} → AtMost x s a b → AtMost (neg x) (not s) a b
-neg-within {x} {s} {a} {b} w = record { over = w.over; size = neg-size x s a b w.size }
+pub neg_within : {x : Float} {s : Bool} {a b : ℕ} → AtMost x s a b → AtMost (neg x) (not s) a b
+neg_within {x} {s} {a} {b} w = record { over = w.over; size = neg_size x s a b w.size }
 
-pub round-within : (s : Bool) (a c k l : ℕ) → 0 < c → 0 < l → Holds k l → a * l ≤ k * c → AtMost (round binary32 s a c) s k l
-round-within false a c k l C L K h = record { over = L; size = round-size a c k l C L K h }
-round-within true a c k l C L K h =
+pub round_within : (s : Bool) (a c k l : ℕ) → 0 < c → 0 < l → Holds k l → a * l ≤ k * c → AtMost (round binary32 s a c) s k l
+round_within false a c k l C L K h = record { over = L; size = round_size a c k l C L K h }
+round_within true a c k l C L K h =
     record {
       over = L;
-      size = rw (round-neg a c) (neg-size (round binary32 false a c) false k l (round-size a c k l C L K h));
+      size = rw (round_neg a c) (neg_size (round binary32 false a c) false k l (round_size a c k l C L K h));
     }
 
 -- ---- products
@@ -129,14 +129,14 @@ mul_at (fin s' m e) nan s t a b c d B K p q = absurd q
 mul_at (fin s' m e) (inf t') s t a b c d B K p q = absurd q
 mul_at (fin s' m e) (fin t' n f) s t a b c d B K p q =
     rw (← p.0, ← q.0)
-    (round-within (unlike s' t') (m * up e * (n * up f)) (down e * down f) (a * c) (b * d) (mul-pos (down_pos e) (down_pos f)) B K
+    (round_within (unlike s' t') (m * up e * (n * up f)) (down e * down f) (a * c) (b * d) (mul-pos (down_pos e) (down_pos f)) B K
     (cross (m * up e) (down e) a (n * up f) (down f) c b d p.1 q.1))
 
-pub mul-within : {x y : Float} {s t : Bool} {a b c d : ℕ} → Holds (a * c) (b * d) → AtMost x s a b → AtMost y t c d → AtMost (mul binary32 x y) (unlike s t) (a * c) (b * d)
-mul-within {x} {y} {s} {t} {a} {b} {c} {d} K p q = mul_at x y s t a b c d (mul-pos p.over q.over) K p.size q.size
+pub mul_within : {x y : Float} {s t : Bool} {a b c d : ℕ} → Holds (a * c) (b * d) → AtMost x s a b → AtMost y t c d → AtMost (mul binary32 x y) (unlike s t) (a * c) (b * d)
+mul_within {x} {y} {s} {t} {a} {b} {c} {d} K p q = mul_at x y s t a b c d (mul-pos p.over q.over) K p.size q.size
 
-pub mul-bounded : {x y : Float} {a b c d : ℕ} → Holds (a * c) (b * d) → Bounded x a b → Bounded y c d → Bounded (mul binary32 x y) (a * c) (b * d)
-mul-bounded K p q = (unlike p.0 q.0, mul-within K p.1 q.1)
+pub mul_bounded : {x y : Float} {a b c d : ℕ} → Holds (a * c) (b * d) → Bounded x a b → Bounded y c d → Bounded (mul binary32 x y) (a * c) (b * d)
+mul_bounded K p q = (unlike p.0 q.0, mul_within K p.1 q.1)
 
 -- ---- sums: x / p ≤ a / b and y / q ≤ c / d bound the sum, and each difference
 sums : (x p a y q c b d : ℕ) → x * b ≤ a * p → y * d ≤ c * q → (x * q + y * p) * (b * d) ≤ (a * d + c * b) * (p * q)
@@ -155,22 +155,22 @@ less : (a b x c k l : ℕ) → x ≤ a + b → (a + b) * l ≤ k * c → x * l �
 less a b x c k l g h = le_trans (mul-le-mul_right l g) h
 
 -- a sum of unlike signs is a difference
-pub apart-bounded : (s : Bool) (a b c k l : ℕ) → 0 < c → 0 < l → Holds k l → (a - b) * l ≤ k * c → (b - a) * l ≤ k * c → Bounded (sum binary32 s a (not s) b c) k l
+pub apart_bounded : (s : Bool) (a b c k l : ℕ) → 0 < c → 0 < l → Holds k l → (a - b) * l ≤ k * c → (b - a) * l ≤ k * c → Bounded (sum binary32 s a (not s) b c) k l
 unfolding sum
-apart-bounded s a b c k l C L K h g = go s (ltb a b) (ltb b a)
+apart_bounded s a b c k l C L K h g = go s (ltb a b) (ltb b a)
   where
     go : (s p q : Bool) → Bounded (cond (beq s (not s)) (round binary32 s (a + b) c) (cond p (round binary32 (not s) (b - a) c) (round binary32 (s && q) (a - b) c))) k l
-    go true true q = (false, round-within false (b - a) c k l C L K g)
-    go true false q = (q, round-within q (a - b) c k l C L K h)
-    go false true q = (true, round-within true (b - a) c k l C L K g)
-    go false false q = (false, round-within false (a - b) c k l C L K h)
+    go true true q = (false, round_within false (b - a) c k l C L K g)
+    go true false q = (q, round_within q (a - b) c k l C L K h)
+    go false true q = (true, round_within true (b - a) c k l C L K g)
+    go false false q = (false, round_within false (a - b) c k l C L K h)
 
-sum-bounded : (s t : Bool) (a b c k l : ℕ) → 0 < c → 0 < l → Holds k l → (a + b) * l ≤ k * c → Bounded (sum binary32 s a t b c) k l
+sum_bounded : (s t : Bool) (a b c k l : ℕ) → 0 < c → 0 < l → Holds k l → (a + b) * l ≤ k * c → Bounded (sum binary32 s a t b c) k l
 unfolding sum
-sum-bounded true true a b c k l C L K h = (true, round-within true (a + b) c k l C L K h)
-sum-bounded false false a b c k l C L K h = (false, round-within false (a + b) c k l C L K h)
-sum-bounded true false a b c k l C L K h = apart-bounded true a b c k l C L K (less a b (a - b) c k l (omega arith) h) (less a b (b - a) c k l (omega arith) h)
-sum-bounded false true a b c k l C L K h = apart-bounded false a b c k l C L K (less a b (a - b) c k l (omega arith) h) (less a b (b - a) c k l (omega arith) h)
+sum_bounded true true a b c k l C L K h = (true, round_within true (a + b) c k l C L K h)
+sum_bounded false false a b c k l C L K h = (false, round_within false (a + b) c k l C L K h)
+sum_bounded true false a b c k l C L K h = apart_bounded true a b c k l C L K (less a b (a - b) c k l (omega arith) h) (less a b (b - a) c k l (omega arith) h)
+sum_bounded false true a b c k l C L K h = apart_bounded false a b c k l C L K (less a b (a - b) c k l (omega arith) h) (less a b (b - a) c k l (omega arith) h)
 
 add_at : (x y : Float) (s t : Bool) (a b c d : ℕ) → 0 < b * d → Holds (a * d + c * b) (b * d) → Size x s a b → Size y t c d → Bounded (add binary32 x y) (a * d + c * b) (b * d)
 unfolding add
@@ -179,30 +179,30 @@ add_at (inf s') y s t a b c d B K p q = absurd p
 add_at (fin s' m e) nan s t a b c d B K p q = absurd q
 add_at (fin s' m e) (inf t') s t a b c d B K p q = absurd q
 add_at (fin s' m e) (fin t' n f) s t a b c d B K p q =
-    sum-bounded s' t' (m * up e * down f) (n * up f * down e) (down e * down f) (a * d + c * b) (b * d) (mul-pos (down_pos e) (down_pos f)) B K
+    sum_bounded s' t' (m * up e * down f) (n * up f * down e) (down e * down f) (a * d + c * b) (b * d) (mul-pos (down_pos e) (down_pos f)) B K
     (sums (m * up e) (down e) a (n * up f) (down f) c b d p.1 q.1)
 
-pub add-bounded : {x y : Float} {a b c d : ℕ} → Holds (a * d + c * b) (b * d) → Bounded x a b → Bounded y c d → Bounded (add binary32 x y) (a * d + c * b) (b * d)
-add-bounded {x} {y} {a} {b} {c} {d} K p q = add_at x y p.0 q.0 a b c d (mul-pos p.1.over q.1.over) K p.1.size q.1.size
+pub add_bounded : {x y : Float} {a b c d : ℕ} → Holds (a * d + c * b) (b * d) → Bounded x a b → Bounded y c d → Bounded (add binary32 x y) (a * d + c * b) (b * d)
+add_bounded {x} {y} {a} {b} {c} {d} K p q = add_at x y p.0 q.0 a b c d (mul-pos p.1.over q.1.over) K p.1.size q.1.size
 
-pub sub-bounded : {x y : Float} {a b c d : ℕ} → Holds (a * d + c * b) (b * d) → Bounded x a b → Bounded y c d → Bounded (sub binary32 x y) (a * d + c * b) (b * d)
+pub sub_bounded : {x y : Float} {a b c d : ℕ} → Holds (a * d + c * b) (b * d) → Bounded x a b → Bounded y c d → Bounded (sub binary32 x y) (a * d + c * b) (b * d)
 unfolding sub
-sub-bounded K p q = add-bounded K p (not q.0, neg-within q.1)
+sub_bounded K p q = add_bounded K p (not q.0, neg_within q.1)
 
 -- ---- the sum of two values that are not negative, a value's difference from one that it does not exceed, and the quotient of a smaller by a larger one
-add-plus-at : (x y : Float) (a b c d : ℕ) → 0 < b * d → Holds (a * d + c * b) (b * d) → Size x false a b → Size y false c d → AtMost (add binary32 x y) false (a * d + c * b) (b * d)
+add_plus_at : (x y : Float) (a b c d : ℕ) → 0 < b * d → Holds (a * d + c * b) (b * d) → Size x false a b → Size y false c d → AtMost (add binary32 x y) false (a * d + c * b) (b * d)
 unfolding add sum
-add-plus-at nan y a b c d B K p q = absurd p
-add-plus-at (inf s) y a b c d B K p q = absurd p
-add-plus-at (fin s m e) nan a b c d B K p q = absurd q
-add-plus-at (fin s m e) (inf t) a b c d B K p q = absurd q
-add-plus-at (fin s m e) (fin t n f) a b c d B K p q =
+add_plus_at nan y a b c d B K p q = absurd p
+add_plus_at (inf s) y a b c d B K p q = absurd p
+add_plus_at (fin s m e) nan a b c d B K p q = absurd q
+add_plus_at (fin s m e) (inf t) a b c d B K p q = absurd q
+add_plus_at (fin s m e) (fin t n f) a b c d B K p q =
     rw (p.0, q.0)
-    (round-within false (m * up e * down f + n * up f * down e) (down e * down f) (a * d + c * b) (b * d) (mul-pos (down_pos e) (down_pos f)) B K
+    (round_within false (m * up e * down f + n * up f * down e) (down e * down f) (a * d + c * b) (b * d) (mul-pos (down_pos e) (down_pos f)) B K
     (sums (m * up e) (down e) a (n * up f) (down f) c b d p.1 q.1))
 
-pub add-within : {x y : Float} {a b c d : ℕ} → Holds (a * d + c * b) (b * d) → AtMost x false a b → AtMost y false c d → AtMost (add binary32 x y) false (a * d + c * b) (b * d)
-add-within {x} {y} {a} {b} {c} {d} K p q = add-plus-at x y a b c d (mul-pos p.over q.over) K p.size q.size
+pub add_within : {x y : Float} {a b c d : ℕ} → Holds (a * d + c * b) (b * d) → AtMost x false a b → AtMost y false c d → AtMost (add binary32 x y) false (a * d + c * b) (b * d)
+add_within {x} {y} {a} {b} {c} {d} K p q = add_plus_at x y a b c d (mul-pos p.over q.over) K p.size q.size
 
 pub difference : (a b c : ℕ) → b ≤ a → sum binary32 false a true b c ≡ round binary32 false (a - b) c
 unfolding sum
@@ -220,17 +220,17 @@ sub_at (fin s m e) (fin t n f) a b B K p q =
     let low : C ≤ A = through (n * up f) a (m * up e) (down f) b (down e) B q.1 (le_of_eq (sym p.1)) in
     let high : A * b ≡ a * (down e * down f) = mul_right_comm (m * up e) (down f) b ∙ ap (λ (z : ℕ). z * down f) p.1 ∙ mul_assoc a (down e) (down f) in
     rw (p.0, q.0, difference A C (down e * down f) low)
-    (round-within false (A - C) (down e * down f) a b (mul-pos (down_pos e) (down_pos f)) B K (le_trans (mul-le-mul_right b (sub-le A C)) (le_of_eq high)))
+    (round_within false (A - C) (down e * down f) a b (mul-pos (down_pos e) (down_pos f)) B K (le_trans (mul-le-mul_right b (sub-le A C)) (le_of_eq high)))
 
 pub sub_within : (x : Float) {y : Float} {a b : ℕ} → Holds a b → HasValue x false a b → AtMost y false a b → AtMost (sub binary32 x y) false a b
 sub_within x {y} {a} {b} K v q = sub_at x y a b q.over K v q.size
 
-pub div-within : (m : ℕ) (e : ℤ) (n : ℕ) (f : ℤ) → 0 < n * up f → m * up e * down f ≤ n * up f * down e → Holds 1 1 → AtMost (div binary32 (fin false m e) (fin false n f)) false 1 1
+pub div_within : (m : ℕ) (e : ℤ) (n : ℕ) (f : ℤ) → 0 < n * up f → m * up e * down f ≤ n * up f * down e → Holds 1 1 → AtMost (div binary32 (fin false m e) (fin false n f)) false 1 1
 unfolding div
-div-within m e n f N h K =
+div_within m e n f N h K =
     let some : eqb n 0 ≡ false = ne_eqb n 0 (λ z. none (n * up f) (rw (z, zero-mul)) N) in
     rw some
-    (round-within false (m * up e * down f) (n * up f * down e) 1 1 (mul-pos N (down_pos e)) (zero-lt-suc 0) K (rw (mul-one, one-mul) h))
+    (round_within false (m * up e * down f) (n * up f * down e) 1 1 (mul-pos N (down_pos e)) (zero-lt-suc 0) K (rw (mul-one, one-mul) h))
   where
     none : (a : ℕ) → a ≡ 0 → 0 < a → ⊥
     none a e h = omega arith

@@ -2,19 +2,19 @@
 use Rattle.std.specs.Prelude.{ℕ, zero, suc, ◌+◌, ◌-◌, ◌*◌, Float}
 use Rattle.std.specs.Float.{binary32}
 use Rattle.std.specs.Float.Ieee.{add, sub}
-use Rattle.dsp_types.specs.Samples.{zeroF}
-use Rattle.timing.specs.Turns.{quarterTurns}
+use Rattle.dsp_types.specs.Samples.{zero_f}
+use Rattle.timing.specs.Turns.{quarter_turns}
 
 -- the sum i over n symbols of a window that starts d steps ago; `delayed k` is the magnitude k steps ago, and the newest stands for any that is still to come
-unfoldable pub sumI : (ℕ → Float) → ℕ → ℕ → Float
-sumI delayed d zero = zeroF
-sumI delayed d (suc n) = add binary32 (sumI delayed d n) (sub binary32 (delayed (d - 4 * n)) (delayed (d - (4 * n + 2))))
+unfoldable pub sum_i : (ℕ → Float) → ℕ → ℕ → Float
+sum_i delayed d zero = zero_f
+sum_i delayed d (suc n) = add binary32 (sum_i delayed d n) (sub binary32 (delayed (d - 4 * n)) (delayed (d - (4 * n + 2))))
 
 -- the sum q
-unfoldable pub sumQ : (ℕ → Float) → ℕ → ℕ → Float
-sumQ delayed d zero = zeroF
-sumQ delayed d (suc n) = add binary32 (sumQ delayed d n) (sub binary32 (delayed (d - (4 * n + 1))) (delayed (d - (4 * n + 3))))
+unfoldable pub sum_q : (ℕ → Float) → ℕ → ℕ → Float
+sum_q delayed d zero = zero_f
+sum_q delayed d (suc n) = add binary32 (sum_q delayed d n) (sub binary32 (delayed (d - (4 * n + 1))) (delayed (d - (4 * n + 3))))
 
 -- how many samples after the window's start its symbols stand, from 0 to below 4
-unfoldable pub estimateTiming : (ℕ → Float) → ℕ → ℕ → Float
-estimateTiming delayed d n = quarterTurns (sumI delayed d n) (sumQ delayed d n)
+unfoldable pub estimate_timing : (ℕ → Float) → ℕ → ℕ → Float
+estimate_timing delayed d n = quarter_turns (sum_i delayed d n) (sum_q delayed d n)

@@ -3,14 +3,14 @@ use Rattle.std.specs.Prelude.{false, Float}
 use Rattle.std.specs.Float.{binary32}
 use Rattle.std.specs.Float.Ieee.{of_bits, round}
 
-abbrev pub halfF : Float
-halfF = of_bits binary32 0x3f00_0000
+abbrev pub half_f : Float
+half_f = of_bits binary32 0x3f00_0000
 
-abbrev pub twoF : Float
-twoF = of_bits binary32 0x4000_0000
+abbrev pub two_f : Float
+two_f = of_bits binary32 0x4000_0000
 
-abbrev pub fourF : Float
-fourF = of_bits binary32 0x4080_0000
+abbrev pub four_f : Float
+four_f = of_bits binary32 0x4080_0000
 
 -- the f32s nearest to 0.1 and to 0.1738
 unfoldable pub tenth : Float

@@ -2,34 +2,34 @@
 use Rattle.std.specs.Prelude.{Bool, cond, ℤ, pos, negsuc, ◌+ℤ◌, Float}
 use Rattle.std.specs.Float.{binary32}
 use Rattle.std.specs.Float.Ieee.{neg, add, sub, mul, lt}
-use Rattle.dsp_types.specs.Samples.{oneF}
-use Rattle.timing.specs.Floats.{halfF, twoF, tenth}
+use Rattle.dsp_types.specs.Samples.{one_f}
+use Rattle.timing.specs.Floats.{half_f, two_f, tenth}
 
 -- `averaged += (timing − 2.0 − averaged) * 0.1`
-unfoldable pub averagedOf : Float → Float → Float
+unfoldable pub averaged_of : Float → Float → Float
 unfolding tenth add mul sub
-averagedOf averaged timing = add binary32 averaged (mul binary32 (sub binary32 (sub binary32 timing twoF) averaged) tenth)
+averaged_of averaged timing = add binary32 averaged (mul binary32 (sub binary32 (sub binary32 timing two_f) averaged) tenth)
 
 -- the two tests of a slot's end: the averaged error is above 0.5, and below −0.5
 unfoldable pub late : Float → Bool
 unfolding lt
-late averaged = lt halfF averaged
+late averaged = lt half_f averaged
 
 unfoldable pub early : Float → Bool
 unfolding lt neg
-early averaged = lt averaged (neg halfF)
+early averaged = lt averaged (neg half_f)
 
 -- the averaged error after the first test; the second test sees this
-unfoldable pub loweredOf : Float → Float
+unfoldable pub lowered_of : Float → Float
 unfolding late sub
-loweredOf averaged = cond (late averaged) (sub binary32 averaged oneF) averaged
+lowered_of averaged = cond (late averaged) (sub binary32 averaged one_f) averaged
 
 -- the averaged error after both
 unfoldable pub settled_of : Float → Float
-unfolding loweredOf early add
-settled_of averaged = let lowered = loweredOf averaged in cond (early lowered) (add binary32 lowered oneF) lowered
+unfolding lowered_of early add
+settled_of averaged = let lowered = lowered_of averaged in cond (early lowered) (add binary32 lowered one_f) lowered
 
 -- by how many samples the two tests move the reference time on
-unfoldable pub movedOf : Float → ℤ
-unfolding loweredOf early late
-movedOf averaged = cond (late averaged) (pos 1) (pos 0) +ℤ cond (early (loweredOf averaged)) (negsuc 0) (pos 0)
+unfoldable pub moved_of : Float → ℤ
+unfolding lowered_of early late
+moved_of averaged = cond (late averaged) (pos 1) (pos 0) +ℤ cond (early (lowered_of averaged)) (negsuc 0) (pos 0)

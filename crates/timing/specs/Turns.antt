@@ -3,47 +3,47 @@ use Rattle.std.specs.Prelude.{ℕ, Bool, true, false, not, ◌&&◌, cond, pos, 
 use Rattle.std.specs.Float.{nan, inf, fin, binary32}
 use Rattle.std.specs.Float.Ieee.{add, sub, mul, div, lt, eq, of_int, to_unsigned}
 use Rattle.std.specs.Float.Ieee.Scale.{finite}
-use Rattle.dsp_types.specs.Samples.{zeroF, oneF}
-use Rattle.timing.specs.Floats.{halfF, twoF, fourF, bend}
+use Rattle.dsp_types.specs.Samples.{zero_f, one_f}
+use Rattle.timing.specs.Floats.{half_f, two_f, four_f, bend}
 
 -- |x|
-unfoldable pub absoluteOf : Float → Float
-absoluteOf nan = nan
-absoluteOf (inf s) = inf false
-absoluteOf (fin s m e) = fin false m e
+unfoldable pub absolute_of : Float → Float
+absolute_of nan = nan
+absolute_of (inf s) = inf false
+absolute_of (fin s m e) = fin false m e
 
 -- "z times (0.5 plus 0.1738 times (1 minus z))"
-unfoldable pub curveOf : Float → Float
+unfoldable pub curve_of : Float → Float
 unfolding bend mul add sub
-curveOf z = mul binary32 z (add binary32 halfF (mul binary32 bend (sub binary32 oneF z)))
+curve_of z = mul binary32 z (add binary32 half_f (mul binary32 bend (sub binary32 one_f z)))
 
 -- u from |i| and |q|: z is "the smaller magnitude over the larger", and "where |q| exceeds |i|, u becomes 1 − u"
-unfoldable pub octantOf : Float → Float → Float
-unfolding curveOf lt sub div
-octantOf a b = cond (lt a b) (sub binary32 oneF (curveOf (div binary32 a b))) (curveOf (div binary32 b a))
+unfoldable pub octant_of : Float → Float → Float
+unfolding curve_of lt sub div
+octant_of a b = cond (lt a b) (sub binary32 one_f (curve_of (div binary32 a b))) (curve_of (div binary32 b a))
 
 -- "or 0.0 if that rounds to 4"
-unfoldable pub wrappedOf : Float → Float
+unfoldable pub wrapped_of : Float → Float
 unfolding eq
-wrappedOf t = cond (eq t fourF) zeroF t
+wrapped_of t = cond (eq t four_f) zero_f t
 
 -- u in its quadrant, by whether i is below 0 and whether q is
-unfoldable pub quadrantOf : Bool → Bool → Float → Float
-unfolding wrappedOf add sub
-quadrantOf false false u = u
-quadrantOf true false u = sub binary32 twoF u
-quadrantOf true true u = add binary32 twoF u
-quadrantOf false true u = wrappedOf (sub binary32 fourF u)
+unfoldable pub quadrant_of : Bool → Bool → Float → Float
+unfolding wrapped_of add sub
+quadrant_of false false u = u
+quadrant_of true false u = sub binary32 two_f u
+quadrant_of true true u = add binary32 two_f u
+quadrant_of false true u = wrapped_of (sub binary32 four_f u)
 
 -- i and q are numbers, and not both zero
 unfoldable pub directed : Float → Float → Bool
 unfolding eq
-directed i q = finite i && finite q && not (eq i zeroF && eq q zeroF)
+directed i q = finite i && finite q && not (eq i zero_f && eq q zero_f)
 
 -- the quarter turns from 0 to below 4; "if i or q is NaN or infinite, or both are zero, it is 0.0"
-unfoldable pub quarterTurns : Float → Float → Float
-unfolding directed quadrantOf octantOf absoluteOf lt
-quarterTurns i q = cond (directed i q) (quadrantOf (lt i zeroF) (lt q zeroF) (octantOf (absoluteOf i) (absoluteOf q))) zeroF
+unfoldable pub quarter_turns : Float → Float → Float
+unfolding directed quadrant_of octant_of absolute_of lt
+quarter_turns i q = cond (directed i q) (quadrant_of (lt i zero_f) (lt q zero_f) (octant_of (absolute_of i) (absolute_of q))) zero_f
 
 -- t's whole part (`floor() as usize`, demodulator.rs 235), as a number of two bits: Rust's cast cuts toward zero, takes NaN to 0 and stops at the ends of the range
 unfoldable pub whole_of : Float → ℕ
@@ -51,6 +51,6 @@ unfolding to_unsigned
 whole_of t = to_unsigned 2 t
 
 -- t less its whole part (`fract()`, demodulator.rs 236)
-unfoldable pub fractOf : Float → Float
+unfoldable pub fract_of : Float → Float
 unfolding whole_of sub of_int
-fractOf t = sub binary32 t (of_int binary32 (pos (whole_of t)))
+fract_of t = sub binary32 t (of_int binary32 (pos (whole_of t)))

@@ -1,8 +1,8 @@
 // Estimates symbol timing from magnitudes: they have a tone at the symbol rate, whose phase is where the symbols stand.
 ghost use Rattle.std.specs.Prelude.{◌≡◌, ◌%◌};
-ghost use Rattle.dsp_types.specs.Samples.{ago, zeroF};
-ghost use Rattle.history.specs.History.{heldIn};
-ghost use Rattle.timing.specs.Estimate.{estimateTiming};
+ghost use Rattle.dsp_types.specs.Samples.{ago, zero_f};
+ghost use Rattle.history.specs.History.{held_in};
+ghost use Rattle.timing.specs.Estimate.{estimate_timing};
 
 use crate::quarter_turns;
 use dsp_types::saturating_sub;
@@ -10,7 +10,7 @@ use history::recall;
 
 // The estimate for n_symbols symbols from d steps ago on, in a ring of magnitudes whose newest stands at `at`. A delay counts modulo 2,048.
 pub fn estimate_timing(abs: &[f32; 2048], at: usize, d: usize, n_symbols: usize) -> f32
-    ensures { result ≡ estimateTiming (λ k. ago zeroF (heldIn abs.now at) (k % 2048)) d n_symbols }
+    ensures { result ≡ estimate_timing (λ k. ago zero_f (held_in abs.now at) (k % 2048)) d n_symbols }
 {
     let mut sum_i: f32 = 0.0;
     let mut sum_q: f32 = 0.0;

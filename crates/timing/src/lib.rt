@@ -6,14 +6,14 @@ mod estimate;
 ghost use Rattle.std.specs.Prelude.{◌≡◌};
 ghost use Rattle.std.specs.Float.Ieee.{lt};
 ghost use Rattle.std.specs.Float.Ieee.Scale.{finite};
-ghost use Rattle.dsp_types.specs.Samples.{zeroF};
-ghost use Rattle.timing.specs.Turns.{absoluteOf, curveOf, octantOf, quadrantOf, directed, quarterTurns, whole_of, fractOf};
+ghost use Rattle.dsp_types.specs.Samples.{zero_f};
+ghost use Rattle.timing.specs.Turns.{absolute_of, curve_of, octant_of, quadrant_of, directed, quarter_turns, whole_of, fract_of};
 
 pub use estimate::estimate_timing;
 
 // |x|: a zero loses its sign too.
 fn absolute(x: f32) -> f32
-    ensures { result ≡ absoluteOf x }
+    ensures { result ≡ absolute_of x }
 {
     if x < 0.0 {
         -x
@@ -40,14 +40,14 @@ fn is_directed(i: f32, q: f32) -> bool
 
 // A curve through (0, 0) and (1, 0.5) that stands for the arc tangent.
 fn curve(z: f32) -> f32
-    ensures { result ≡ curveOf z }
+    ensures { result ≡ curve_of z }
 {
     z * (0.5 + 0.1738 * (1.0 - z))
 }
 
 // The quarter turns of the direction (a, b), neither below 0 and not both 0.
 fn octant(a: f32, b: f32) -> f32
-    ensures { result ≡ octantOf a b }
+    ensures { result ≡ octant_of a b }
 {
     if a < b {
         1.0 - curve(a / b)
@@ -58,7 +58,7 @@ fn octant(a: f32, b: f32) -> f32
 
 // The quarter turns u of (|i|, |q|) as those of (i, q).
 fn quadrant(i: f32, q: f32, u: f32) -> f32
-    ensures { result ≡ quadrantOf (lt i zeroF) (lt q zeroF) u }
+    ensures { result ≡ quadrant_of (lt i zero_f) (lt q zero_f) u }
 {
     if q < 0.0 {
         if i < 0.0 {
@@ -75,7 +75,7 @@ fn quadrant(i: f32, q: f32, u: f32) -> f32
 
 // The direction of (i, q) in quarter turns, from 0 to below 4.
 pub fn quarter_turns(i: f32, q: f32) -> f32
-    ensures { result ≡ quarterTurns i q }
+    ensures { result ≡ quarter_turns i q }
 {
     if is_directed(i, q) {
         quadrant(i, q, octant(absolute(i), absolute(q)))
@@ -101,7 +101,7 @@ pub fn whole(t: f32) -> usize
 
 // What is left of t: how far on from that sample.
 pub fn fract(t: f32) -> f32
-    ensures { result ≡ fractOf t }
+    ensures { result ≡ fract_of t }
 {
     t - whole(t) as f32
 }

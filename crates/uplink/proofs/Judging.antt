@@ -8,202 +8,202 @@ use lib.Dec.{ltb, eqb}
 use lib.ListN.{length, take, replicate, length-replicate}
 use lib.Seq.{take_at, drop_at}
 use borrow.Author.Tests.{eq-eqb}
-use Rattle.dsp_types.specs.Refusals.{accepted, wrongLength, notBits}
+use Rattle.dsp_types.specs.Refusals.{accepted, wrong_length, not_bits}
 use Rattle.dsp_types.proofs.Laws.{neither}
 use Rattle.train_consts.specs.Training.{normal1, normal2, extended, tail}
 use Rattle.burst_finder.specs.declared.Finding.{Finding}
 use Rattle.burst_finder.specs.declared.SlotType.{SlotType}
 use Rattle.burst_finder.specs.declared.SlotType.TheVariants.{UlFull, UlSub}
-use Rattle.burst_finder.specs.Search.{errorsAt}
-use Rattle.burst_finder.specs.Slots.{checkSlot, getBurst}
-use Rattle.burst_finder.proofs.Findings.{view-is}
-use Rattle.logger.specs.Judge.{slotTypeOf, windowLength, wrongWindow, findingBytes, judgeRefusal, judgeAnswer}
-use Rattle.slotter.specs.Bursts.{trainingOf, trainingRefusal}
+use Rattle.burst_finder.specs.Search.{errors_at}
+use Rattle.burst_finder.specs.Slots.{check_slot, get_burst}
+use Rattle.burst_finder.proofs.Findings.{view_is}
+use Rattle.logger.specs.Judge.{slot_type_of, window_length, wrong_window, finding_bytes, judge_refusal, judge_answer}
+use Rattle.slotter.specs.Bursts.{training_of, training_refusal}
 use Rattle.slotter.specs.declared.uplink.UplinkAnswer.{UplinkAnswer}
-use Rattle.slotter.specs.Uplink.{uplink, pairRefusal, UplinkReply, uplinkReply, normalUplink, controlUplink, uplinkNumber, uplinkBits, placed}
-use Rattle.slotter.proofs.UplinkAnswers.{uplink-number, uplink-bits, told-uplink-number, told-uplink-bits}
-use Rattle.slotter.proofs.Fields.{training-length}
-use Rattle.slotter.proofs.Placing.{placed-length, placed-whole}
-use Rattle.slotter.proofs.Places.{normal-uplink-places, control-uplink-places}
-use Rattle.slotter.proofs.Refusal.{right-pair}
-use Rattle.slot_receiver.proofs.Taken.{bits-take}
+use Rattle.slotter.specs.Uplink.{uplink, pair_refusal, UplinkReply, uplink_reply, normal_uplink, control_uplink, uplink_number, uplink_bits, placed}
+use Rattle.slotter.proofs.UplinkAnswers.{uplink_number_lem, uplink_bits_lem, told_uplink_number, told_uplink_bits}
+use Rattle.slotter.proofs.Fields.{training_length}
+use Rattle.slotter.proofs.Placing.{placed_length, placed_whole}
+use Rattle.slotter.proofs.Places.{normal_uplink_places, control_uplink_places}
+use Rattle.slotter.proofs.Refusal.{right_pair}
+use Rattle.slot_receiver.proofs.Taken.{bits_take}
 use Rattle.uplink.specs.declared.Judged.{Judged}
-use Rattle.uplink.specs.Placed.{normalWindow, controlWindow, NormalReported, ControlReported}
-use Rattle.uplink.specs.Judging.{judgedOf, judgedNormal, judgedControl, NormalFound, ControlFound}
-use Rattle.uplink.proofs.Found.{normal1-reported, normal2-reported, before-reported, control-reported, at-placing}
+use Rattle.uplink.specs.Placed.{normal_window, control_window, NormalReported, ControlReported}
+use Rattle.uplink.specs.Judging.{judged_of, judged_normal, judged_control, NormalFound, ControlFound}
+use Rattle.uplink.proofs.Found.{normal1_reported, normal2_reported, before_reported, control_reported, at_placing}
 
 -- ---- bits alone
 
-bits-append : (a b : List ℕ) → notBits a ≡ false → notBits b ≡ false → notBits (a ++ b) ≡ false
-unfolding notBits
-bits-append [] b e f = f
-bits-append (x ∷ a) b e f = let h = neither (ltb 1 x) (notBits a) e in rw h.0 (bits-append a b h.1 f)
+bits_append : (a b : List ℕ) → not_bits a ≡ false → not_bits b ≡ false → not_bits (a ++ b) ≡ false
+unfolding not_bits
+bits_append [] b e f = f
+bits_append (x ∷ a) b e f = let h = neither (ltb 1 x) (not_bits a) e in rw h.0 (bits_append a b h.1 f)
 
-bits-zeros : (n : ℕ) → notBits (replicate n 0) ≡ false
-unfolding notBits
-bits-zeros zero = refl
-bits-zeros (suc n) = bits-zeros n
+bits_zeros : (n : ℕ) → not_bits (replicate n 0) ≡ false
+unfolding not_bits
+bits_zeros zero = refl
+bits_zeros (suc n) = bits_zeros n
 
-fixed-bits : (notBits tail ≡ false) × (notBits normal1 ≡ false) × (notBits normal2 ≡ false) × (notBits extended ≡ false)
-unfolding notBits tail normal1 normal2 extended
-fixed-bits = (refl, refl, refl, refl)
+fixed_bits : (not_bits tail ≡ false) × (not_bits normal1 ≡ false) × (not_bits normal2 ≡ false) × (not_bits extended ≡ false)
+unfolding not_bits tail normal1 normal2 extended
+fixed_bits = (refl, refl, refl, refl)
 
-uplink-bits-alone : (sequence blk1 blk2 : List ℕ) → notBits sequence ≡ false → notBits blk1 ≡ false → notBits blk2 ≡ false → notBits (uplink sequence blk1 blk2) ≡ false
+uplink_bits_alone : (sequence blk1 blk2 : List ℕ) → not_bits sequence ≡ false → not_bits blk1 ≡ false → not_bits blk2 ≡ false → not_bits (uplink sequence blk1 blk2) ≡ false
 unfolding uplink
-uplink-bits-alone sequence blk1 blk2 s a b =
-    let t = fixed-bits.0 in
-    bits-append _ tail (bits-append _ blk2 (bits-append _ sequence (bits-append tail blk1 t a) s) b) t
+uplink_bits_alone sequence blk1 blk2 s a b =
+    let t = fixed_bits.0 in
+    bits_append _ tail (bits_append _ blk2 (bits_append _ sequence (bits_append tail blk1 t a) s) b) t
 
-window-bits : (n offset : ℕ) (burst : List ℕ) → notBits burst ≡ false → notBits (placed n offset burst) ≡ false
+window_bits_lem : (n offset : ℕ) (burst : List ℕ) → not_bits burst ≡ false → not_bits (placed n offset burst) ≡ false
 unfolding placed
-window-bits n offset burst e = bits-take n _ (bits-append _ (replicate n 0) (bits-append (replicate offset 0) burst (bits-zeros offset) e) (bits-zeros n))
+window_bits_lem n offset burst e = bits_take n _ (bits_append _ (replicate n 0) (bits_append (replicate offset 0) burst (bits_zeros offset) e) (bits_zeros n))
 
 -- the part of a window where a burst was placed
-own-part : (n offset len : ℕ) (burst : List ℕ) → length burst ≡ len → offset + len ≤ n → getBurst (placed n offset burst) offset len ≡ burst
-own-part n offset len burst e h =
+own_part : (n offset len : ℕ) (burst : List ℕ) → length burst ≡ len → offset + len ≤ n → get_burst (placed n offset burst) offset len ≡ burst
+own_part n offset len burst e h =
     let z : List ℕ = replicate offset 0 in
     let rest : List ℕ = take (n - (offset + length burst)) (replicate n 0) in
-    view-is (placed n offset burst) offset len (omega (arith, placed-length offset burst n))
-    ∙ rw (placed-whole offset burst n (omega arith), append_assoc z burst rest, drop_at z (burst ++ rest) offset (length-replicate {A = ℕ} offset 0)) (take_at burst rest len e)
+    view_is (placed n offset burst) offset len (omega (arith, placed_length offset burst n))
+    ∙ rw (placed_whole offset burst n (omega arith), append_assoc z burst rest, drop_at z (burst ++ rest) offset (length-replicate {A = ℕ} offset 0)) (take_at burst rest len e)
 
-extended-length : length extended ≡ 30
+extended_length : length extended ≡ 30
 unfolding extended
-extended-length = refl
+extended_length = refl
 
 -- ---- the window of a burst that was built
 
-training-bits : (n : ℕ) → notBits (trainingOf n) ≡ false
-unfolding trainingOf
-training-bits n = go (eqb n 1)
+training_bits : (n : ℕ) → not_bits (training_of n) ≡ false
+unfolding training_of
+training_bits n = go (eqb n 1)
   where
-    go : (b : Bool) → notBits (cond b normal1 normal2) ≡ false
-    go true = fixed-bits.1
-    go false = fixed-bits.2
+    go : (b : Bool) → not_bits (cond b normal1 normal2) ≡ false
+    go true = fixed_bits.1
+    go false = fixed_bits.2
 
 -- one that is full
-module _ (train : ℕ) (blk1 blk2 : List ℕ) (offset : ℕ) (built : uplinkNumber (normalUplink train blk1 blk2) ≡ accepted) where
+module _ (train : ℕ) (blk1 blk2 : List ℕ) (offset : ℕ) (built : uplink_number (normal_uplink train blk1 blk2) ≡ accepted) where
   abbrev burst : List ℕ
-  burst = uplink (trainingOf train) blk1 blk2
+  burst = uplink (training_of train) blk1 blk2
 
-  normal-number : pairRefusal 216 blk1 blk2 (trainingRefusal train) ≡ 0
-  unfolding normalUplink
-  normal-number = sym (uplink-number _ 462 burst) ∙ built
+  normal_number : pair_refusal 216 blk1 blk2 (training_refusal train) ≡ 0
+  unfolding normal_uplink
+  normal_number = sym (uplink_number_lem _ 462 burst) ∙ built
 
-  pub normal-window : normalWindow train blk1 blk2 offset ≡ placed 510 offset burst
-  unfolding normalWindow normalUplink
-  normal-window = ap (placed 510 offset) (uplink-bits _ 462 burst normal-number)
+  pub normal_window_lem : normal_window train blk1 blk2 offset ≡ placed 510 offset burst
+  unfolding normal_window normal_uplink
+  normal_window_lem = ap (placed 510 offset) (uplink_bits_lem _ 462 burst normal_number)
 
-  pub normal-length : length (normalWindow train blk1 blk2 offset) ≡ 510
-  normal-length = rw normal-window (placed-length offset burst 510)
+  pub normal_length : length (normal_window train blk1 blk2 offset) ≡ 510
+  normal_length = rw normal_window_lem (placed_length offset burst 510)
 
-  pub normal-bits : notBits (normalWindow train blk1 blk2 offset) ≡ false
-  normal-bits =
-      let p = right-pair 216 blk1 blk2 _ normal-number in
-      rw normal-window (window-bits 510 offset burst (uplink-bits-alone (trainingOf train) blk1 blk2 (training-bits train) p.2 p.3))
+  pub normal_bits : not_bits (normal_window train blk1 blk2 offset) ≡ false
+  normal_bits =
+      let p = right_pair 216 blk1 blk2 _ normal_number in
+      rw normal_window_lem (window_bits_lem 510 offset burst (uplink_bits_alone (training_of train) blk1 blk2 (training_bits train) p.2 p.3))
 
-  normal-exact : (k : ℕ) → offset ≡ 2 * k → k ≤ 24 → errorsAt (normalWindow train blk1 blk2 offset) (trainingOf train) (220 + 2 * k) ≡ 0
-  normal-exact k e h =
-      let p = right-pair 216 blk1 blk2 _ normal-number in
-      rw (normal-window, e) (at-placing (trainingOf train) blk1 blk2 510 216 22 k (training-length train) p.0 p.1 (omega arith))
+  normal_exact : (k : ℕ) → offset ≡ 2 * k → k ≤ 24 → errors_at (normal_window train blk1 blk2 offset) (training_of train) (220 + 2 * k) ≡ 0
+  normal_exact k e h =
+      let p = right_pair 216 blk1 blk2 _ normal_number in
+      rw (normal_window_lem, e) (at_placing (training_of train) blk1 blk2 510 216 22 k (training_length train) p.0 p.1 (omega arith))
 
-  pub normal-part : offset ≤ 48 → getBurst (normalWindow train blk1 blk2 offset) offset 462 ≡ uplinkBits (normalUplink train blk1 blk2)
-  unfolding normalWindow
-  normal-part h = own-part 510 offset 462 (uplinkBits (normalUplink train blk1 blk2)) (normal-uplink-places train blk1 blk2 built).whole (omega arith)
+  pub normal_part : offset ≤ 48 → get_burst (normal_window train blk1 blk2 offset) offset 462 ≡ uplink_bits (normal_uplink train blk1 blk2)
+  unfolding normal_window
+  normal_part h = own_part 510 offset 462 (uplink_bits (normal_uplink train blk1 blk2)) (normal_uplink_places train blk1 blk2 built).whole (omega arith)
 
   -- whatever is said of its finding
-  pub normal-reported : (says : Finding → Type 0) → says (checkSlot UlFull (normalWindow train blk1 blk2 offset)) → (k : ℕ) → offset ≡ 2 * k → k ≤ 24
-      → NormalReported says train (normalWindow train blk1 blk2 offset) k
-  unfolding trainingOf
-  normal-reported says said k e h =
-      let w = normalWindow train blk1 blk2 offset in
-      let x = normal-exact k e h in
+  pub normal_reported : (says : Finding → Type 0) → says (check_slot UlFull (normal_window train blk1 blk2 offset)) → (k : ℕ) → offset ≡ 2 * k → k ≤ 24
+      → NormalReported says train (normal_window train blk1 blk2 offset) k
+  unfolding training_of
+  normal_reported says said k e h =
+      let w = normal_window train blk1 blk2 offset in
+      let x = normal_exact k e h in
       record {
-        first = λ one. normal1-reported says w k normal-length h said (ap (λ (n : ℕ). errorsAt w (trainingOf n) (220 + 2 * k)) (sym one) ∙ x);
-        second = λ two. normal2-reported says w k normal-length h said (ap (λ (n : ℕ). errorsAt w (trainingOf n) (220 + 2 * k)) (sym two) ∙ x);
-        tried-before = λ two. before-reported says w k normal-length h said;
+        first = λ one. normal1_reported says w k normal_length h said (ap (λ (n : ℕ). errors_at w (training_of n) (220 + 2 * k)) (sym one) ∙ x);
+        second = λ two. normal2_reported says w k normal_length h said (ap (λ (n : ℕ). errors_at w (training_of n) (220 + 2 * k)) (sym two) ∙ x);
+        tried_before = λ two. before_reported says w k normal_length h said;
       }
 
 -- half a window
-module _ (blk1 blk2 : List ℕ) (offset : ℕ) (built : uplinkNumber (controlUplink blk1 blk2) ≡ accepted) where
+module _ (blk1 blk2 : List ℕ) (offset : ℕ) (built : uplink_number (control_uplink blk1 blk2) ≡ accepted) where
   abbrev control : List ℕ
   control = uplink extended blk1 blk2
 
-  control-number : pairRefusal 84 blk1 blk2 accepted ≡ 0
-  unfolding controlUplink
-  control-number = sym (uplink-number _ 206 control) ∙ built
+  control_number : pair_refusal 84 blk1 blk2 accepted ≡ 0
+  unfolding control_uplink
+  control_number = sym (uplink_number_lem _ 206 control) ∙ built
 
-  pub control-window : controlWindow blk1 blk2 offset ≡ placed 254 offset control
-  unfolding controlWindow controlUplink
-  control-window = ap (placed 254 offset) (uplink-bits _ 206 control control-number)
+  pub control_window_lem : control_window blk1 blk2 offset ≡ placed 254 offset control
+  unfolding control_window control_uplink
+  control_window_lem = ap (placed 254 offset) (uplink_bits_lem _ 206 control control_number)
 
-  pub control-length : length (controlWindow blk1 blk2 offset) ≡ 254
-  control-length = rw control-window (placed-length offset control 254)
+  pub control_length : length (control_window blk1 blk2 offset) ≡ 254
+  control_length = rw control_window_lem (placed_length offset control 254)
 
-  pub control-bits : notBits (controlWindow blk1 blk2 offset) ≡ false
-  control-bits =
-      let p = right-pair 84 blk1 blk2 accepted control-number in
-      rw control-window (window-bits 254 offset control (uplink-bits-alone extended blk1 blk2 fixed-bits.3 p.2 p.3))
+  pub control_bits : not_bits (control_window blk1 blk2 offset) ≡ false
+  control_bits =
+      let p = right_pair 84 blk1 blk2 accepted control_number in
+      rw control_window_lem (window_bits_lem 254 offset control (uplink_bits_alone extended blk1 blk2 fixed_bits.3 p.2 p.3))
 
-  control-exact : (k : ℕ) → offset ≡ 2 * k → k ≤ 24 → errorsAt (controlWindow blk1 blk2 offset) extended (88 + 2 * k) ≡ 0
-  control-exact k e h =
-      let p = right-pair 84 blk1 blk2 accepted control-number in
-      rw (control-window, e) (at-placing extended blk1 blk2 254 84 30 k extended-length p.0 p.1 (omega arith))
+  control_exact : (k : ℕ) → offset ≡ 2 * k → k ≤ 24 → errors_at (control_window blk1 blk2 offset) extended (88 + 2 * k) ≡ 0
+  control_exact k e h =
+      let p = right_pair 84 blk1 blk2 accepted control_number in
+      rw (control_window_lem, e) (at_placing extended blk1 blk2 254 84 30 k extended_length p.0 p.1 (omega arith))
 
-  pub control-part : offset ≤ 48 → getBurst (controlWindow blk1 blk2 offset) offset 206 ≡ uplinkBits (controlUplink blk1 blk2)
-  unfolding controlWindow
-  control-part h = own-part 254 offset 206 (uplinkBits (controlUplink blk1 blk2)) (control-uplink-places blk1 blk2 built).whole (omega arith)
+  pub control_part : offset ≤ 48 → get_burst (control_window blk1 blk2 offset) offset 206 ≡ uplink_bits (control_uplink blk1 blk2)
+  unfolding control_window
+  control_part h = own_part 254 offset 206 (uplink_bits (control_uplink blk1 blk2)) (control_uplink_places blk1 blk2 built).whole (omega arith)
 
-  pub control-said : (says : Finding → Type 0) → says (checkSlot UlSub (controlWindow blk1 blk2 offset)) → (k : ℕ) → offset ≡ 2 * k → k ≤ 24
-      → ControlReported says (controlWindow blk1 blk2 offset) k
-  control-said says said k e h = control-reported says (controlWindow blk1 blk2 offset) k control-length h (control-exact k e h) said
+  pub control_said_lem : (says : Finding → Type 0) → says (check_slot UlSub (control_window blk1 blk2 offset)) → (k : ℕ) → offset ≡ 2 * k → k ≤ 24
+      → ControlReported says (control_window blk1 blk2 offset) k
+  control_said_lem says said k e h = control_reported says (control_window blk1 blk2 offset) k control_length h (control_exact k e h) said
 
 -- ---- the logger's call
 
 abbrev six : List ℕ
 six = replicate 6 0
 
-module _ (kind : ℕ) (window : List ℕ) (known : ltb 2 kind ≡ false) (long : length window ≡ windowLength (slotTypeOf kind)) (bits : notBits window ≡ false) where
-  pub not-refused : judgeRefusal kind window six ≡ 0
-  unfolding judgeRefusal wrongWindow wrongLength
-  not-refused = rw (known, long, eq-eqb (windowLength (slotTypeOf kind)) (windowLength (slotTypeOf kind)) refl, bits)
+module _ (kind : ℕ) (window : List ℕ) (known : ltb 2 kind ≡ false) (long : length window ≡ window_length (slot_type_of kind)) (bits : not_bits window ≡ false) where
+  pub not_refused : judge_refusal kind window six ≡ 0
+  unfolding judge_refusal wrong_window wrong_length
+  not_refused = rw (known, long, eq-eqb (window_length (slot_type_of kind)) (window_length (slot_type_of kind)) refl, bits)
 
-  pub told : judgeAnswer kind window six ≡ findingBytes (checkSlot (slotTypeOf kind) window)
-  unfolding judgeAnswer
-  told = rw not-refused
+  pub told : judge_answer kind window six ≡ finding_bytes (check_slot (slot_type_of kind) window)
+  unfolding judge_answer
+  told = rw not_refused
 
 -- ---- what is proved of the answers
 
 -- the builder's answer, its bits in a window, and the calls on that
-pub judged-window : (answer : UplinkAnswer) (bits : List ℕ) (reply : UplinkReply) (n offset kind : ℕ) (type : SlotType) {number : ℕ} {window : List ℕ}
-    → uplinkReply answer bits ≡ reply → number ≡ uplinkNumber (uplinkReply answer []) → window ≡ placed n offset bits
-    → judgedOf number kind type window ≡ judgedOf (uplinkNumber reply) kind type (placed n offset (uplinkBits reply))
-judged-window answer bits reply n offset kind type {number} {window} e f g =
-    ap (λ (m : ℕ). judgedOf m kind type window) (f ∙ told-uplink-number answer bits ∙ ap uplinkNumber e)
-    ∙ ap (judgedOf (uplinkNumber reply) kind type) (g ∙ ap (placed n offset) (told-uplink-bits answer bits ∙ ap uplinkBits e))
+pub judged_window : (answer : UplinkAnswer) (bits : List ℕ) (reply : UplinkReply) (n offset kind : ℕ) (type : SlotType) {number : ℕ} {window : List ℕ}
+    → uplink_reply answer bits ≡ reply → number ≡ uplink_number (uplink_reply answer []) → window ≡ placed n offset bits
+    → judged_of number kind type window ≡ judged_of (uplink_number reply) kind type (placed n offset (uplink_bits reply))
+judged_window answer bits reply n offset kind type {number} {window} e f g =
+    ap (λ (m : ℕ). judged_of m kind type window) (f ∙ told_uplink_number answer bits ∙ ap uplink_number e)
+    ∙ ap (judged_of (uplink_number reply) kind type) (g ∙ ap (placed n offset) (told_uplink_bits answer bits ∙ ap uplink_bits e))
 
-pub normal-found : (train : ℕ) (blk1 blk2 : List ℕ) (offset : ℕ) (j : Judged) → j ≡ judgedNormal train blk1 blk2 offset → j.number ≡ accepted
+pub normal_found : (train : ℕ) (blk1 blk2 : List ℕ) (offset : ℕ) (j : Judged) → j ≡ judged_normal train blk1 blk2 offset → j.number ≡ accepted
     → NormalFound train blk1 blk2 offset j
-unfolding judgedNormal judgedOf slotTypeOf windowLength
-normal-found train blk1 blk2 offset j e n =
-    let built : uplinkNumber (normalUplink train blk1 blk2) ≡ accepted = sym (ap (λ (j : Judged). j.number) e) ∙ n in
-    let w = normalWindow train blk1 blk2 offset in
-    let long = normal-length train blk1 blk2 offset built in
-    let bits = normal-bits train blk1 blk2 offset built in
+unfolding judged_normal judged_of slot_type_of window_length
+normal_found train blk1 blk2 offset j e n =
+    let built : uplink_number (normal_uplink train blk1 blk2) ≡ accepted = sym (ap (λ (j : Judged). j.number) e) ∙ n in
+    let w = normal_window train blk1 blk2 offset in
+    let long = normal_length train blk1 blk2 offset built in
+    let bits = normal_bits train blk1 blk2 offset built in
     record {
-      judged = ap (λ (j : Judged). j.refusal) e ∙ not-refused 1 w refl long bits;
-      finder = normal-reported train blk1 blk2 offset built (λ f. j.finding ≡ f) (ap (λ (j : Judged). j.finding) e);
-      logger = normal-reported train blk1 blk2 offset built (λ f. j.answer ≡ findingBytes f) (ap (λ (j : Judged). j.answer) e ∙ told 1 w refl long bits);
+      judged = ap (λ (j : Judged). j.refusal) e ∙ not_refused 1 w refl long bits;
+      finder = normal_reported train blk1 blk2 offset built (λ f. j.finding ≡ f) (ap (λ (j : Judged). j.finding) e);
+      logger = normal_reported train blk1 blk2 offset built (λ f. j.answer ≡ finding_bytes f) (ap (λ (j : Judged). j.answer) e ∙ told 1 w refl long bits);
     }
 
-pub control-found : (blk1 blk2 : List ℕ) (offset : ℕ) (j : Judged) → j ≡ judgedControl blk1 blk2 offset → j.number ≡ accepted → ControlFound blk1 blk2 offset j
-unfolding judgedControl judgedOf slotTypeOf windowLength
-control-found blk1 blk2 offset j e n =
-    let built : uplinkNumber (controlUplink blk1 blk2) ≡ accepted = sym (ap (λ (j : Judged). j.number) e) ∙ n in
-    let w = controlWindow blk1 blk2 offset in
-    let long = control-length blk1 blk2 offset built in
-    let bits = control-bits blk1 blk2 offset built in
+pub control_found : (blk1 blk2 : List ℕ) (offset : ℕ) (j : Judged) → j ≡ judged_control blk1 blk2 offset → j.number ≡ accepted → ControlFound blk1 blk2 offset j
+unfolding judged_control judged_of slot_type_of window_length
+control_found blk1 blk2 offset j e n =
+    let built : uplink_number (control_uplink blk1 blk2) ≡ accepted = sym (ap (λ (j : Judged). j.number) e) ∙ n in
+    let w = control_window blk1 blk2 offset in
+    let long = control_length blk1 blk2 offset built in
+    let bits = control_bits blk1 blk2 offset built in
     record {
-      judged = ap (λ (j : Judged). j.refusal) e ∙ not-refused 2 w refl long bits;
-      finder = control-said blk1 blk2 offset built (λ f. j.finding ≡ f) (ap (λ (j : Judged). j.finding) e);
-      logger = control-said blk1 blk2 offset built (λ f. j.answer ≡ findingBytes f) (ap (λ (j : Judged). j.answer) e ∙ told 2 w refl long bits);
+      judged = ap (λ (j : Judged). j.refusal) e ∙ not_refused 2 w refl long bits;
+      finder = control_said_lem blk1 blk2 offset built (λ f. j.finding ≡ f) (ap (λ (j : Judged). j.finding) e);
+      logger = control_said_lem blk1 blk2 offset built (λ f. j.answer ≡ finding_bytes f) (ap (λ (j : Judged). j.answer) e ∙ told 2 w refl long bits);
     }

@@ -3,35 +3,35 @@ use Rattle.std.specs.Prelude.{◌≡◌, List, ℕ, ◌*◌, ◌≤◌, replicat
 use Rattle.dsp_types.specs.Refusals.{accepted}
 use Rattle.burst_finder.specs.declared.SlotType.{SlotType}
 use Rattle.burst_finder.specs.declared.SlotType.TheVariants.{UlFull, UlSub}
-use Rattle.burst_finder.specs.Slots.{checkSlot}
-use Rattle.logger.specs.Judge.{findingBytes, judgeRefusal, judgeAnswer}
-use Rattle.slotter.specs.Uplink.{normalUplink, controlUplink, uplinkNumber}
+use Rattle.burst_finder.specs.Slots.{check_slot}
+use Rattle.logger.specs.Judge.{finding_bytes, judge_refusal, judge_answer}
+use Rattle.slotter.specs.Uplink.{normal_uplink, control_uplink, uplink_number}
 use Rattle.uplink.specs.declared.Judged.{Judged}
-use Rattle.uplink.specs.Placed.{normalWindow, controlWindow, NormalReported, ControlReported}
+use Rattle.uplink.specs.Placed.{normal_window, control_window, NormalReported, ControlReported}
 
 -- the builder's number, and what the finder and the logger's call, with six zero bytes lent, answer of a window of that kind
-unfoldable pub judgedOf : (number kind : ℕ) (type : SlotType) (window : List ℕ) → Judged
-judgedOf number kind type window =
+unfoldable pub judged_of : (number kind : ℕ) (type : SlotType) (window : List ℕ) → Judged
+judged_of number kind type window =
     record {
       number = number;
-      finding = checkSlot type window;
-      refusal = judgeRefusal kind window (replicate 6 0);
-      answer = judgeAnswer kind window (replicate 6 0);
+      finding = check_slot type window;
+      refusal = judge_refusal kind window (replicate 6 0);
+      answer = judge_answer kind window (replicate 6 0);
     }
 
-unfoldable pub judgedNormal : (train : ℕ) (blk1 blk2 : List ℕ) (offset : ℕ) → Judged
-judgedNormal train blk1 blk2 offset = judgedOf (uplinkNumber (normalUplink train blk1 blk2)) 1 UlFull (normalWindow train blk1 blk2 offset)
+unfoldable pub judged_normal : (train : ℕ) (blk1 blk2 : List ℕ) (offset : ℕ) → Judged
+judged_normal train blk1 blk2 offset = judged_of (uplink_number (normal_uplink train blk1 blk2)) 1 UlFull (normal_window train blk1 blk2 offset)
 
-unfoldable pub judgedControl : (blk1 blk2 : List ℕ) (offset : ℕ) → Judged
-judgedControl blk1 blk2 offset = judgedOf (uplinkNumber (controlUplink blk1 blk2)) 2 UlSub (controlWindow blk1 blk2 offset)
+unfoldable pub judged_control : (blk1 blk2 : List ℕ) (offset : ℕ) → Judged
+judged_control blk1 blk2 offset = judged_of (uplink_number (control_uplink blk1 blk2)) 2 UlSub (control_window blk1 blk2 offset)
 
 -- a burst that was built is reported by both, at every even offset from 0 to 48
 pub record NormalFound (train : ℕ) (blk1 blk2 : List ℕ) (offset : ℕ) (j : Judged) : Type 0 where
   pub judged : j.refusal ≡ accepted
-  pub finder : (k : ℕ) → offset ≡ 2 * k → k ≤ 24 → NormalReported (λ f. j.finding ≡ f) train (normalWindow train blk1 blk2 offset) k
-  pub logger : (k : ℕ) → offset ≡ 2 * k → k ≤ 24 → NormalReported (λ f. j.answer ≡ findingBytes f) train (normalWindow train blk1 blk2 offset) k
+  pub finder : (k : ℕ) → offset ≡ 2 * k → k ≤ 24 → NormalReported (λ f. j.finding ≡ f) train (normal_window train blk1 blk2 offset) k
+  pub logger : (k : ℕ) → offset ≡ 2 * k → k ≤ 24 → NormalReported (λ f. j.answer ≡ finding_bytes f) train (normal_window train blk1 blk2 offset) k
 
 pub record ControlFound (blk1 blk2 : List ℕ) (offset : ℕ) (j : Judged) : Type 0 where
   pub judged : j.refusal ≡ accepted
-  pub finder : (k : ℕ) → offset ≡ 2 * k → k ≤ 24 → ControlReported (λ f. j.finding ≡ f) (controlWindow blk1 blk2 offset) k
-  pub logger : (k : ℕ) → offset ≡ 2 * k → k ≤ 24 → ControlReported (λ f. j.answer ≡ findingBytes f) (controlWindow blk1 blk2 offset) k
+  pub finder : (k : ℕ) → offset ≡ 2 * k → k ≤ 24 → ControlReported (λ f. j.finding ≡ f) (control_window blk1 blk2 offset) k
+  pub logger : (k : ℕ) → offset ≡ 2 * k → k ≤ 24 → ControlReported (λ f. j.answer ≡ finding_bytes f) (control_window blk1 blk2 offset) k

@@ -5,7 +5,7 @@ mod receive;
 
 ghost use Rattle.std.specs.Prelude.{◌≡◌};
 ghost use Rattle.dsp_types.specs.Refusals.{accepted};
-ghost use Rattle.uplink.specs.Judging.{judgedOf, judgedNormal, judgedControl, NormalFound, ControlFound};
+ghost use Rattle.uplink.specs.Judging.{judged_of, judged_normal, judged_control, NormalFound, ControlFound};
 
 use burst_finder::{Finding, SlotType, check_slot};
 use logger::judge;
@@ -25,7 +25,7 @@ pub struct Judged {
 
 // Has a window judged by the finder and by the logger's call.
 fn judge_window(number: u32, kind: u32, slot_type: SlotType, window: &[u8]) -> Judged
-    ensures { result ≡ judgedOf number kind slot_type window.now }
+    ensures { result ≡ judged_of number kind slot_type window.now }
 {
     let finding = check_slot(slot_type, window);
     let mut answer = [0; 6];
@@ -40,7 +40,7 @@ fn judge_window(number: u32, kind: u32, slot_type: SlotType, window: &[u8]) -> J
 
 // Builds a normal uplink burst, places it at an offset of a full window, and has the window judged.
 pub fn judge_normal(train: u32, blk1: &[u8], blk2: &[u8], offset: usize) -> Judged
-    ensures answers { result ≡ judgedNormal train blk1.now blk2.now offset }
+    ensures answers { result ≡ judged_normal train blk1.now blk2.now offset }
     ensures found { result.number ≡ accepted → NormalFound train blk1.now blk2.now offset result }
 {
     let burst = build_nub(train, blk1, blk2);
@@ -53,7 +53,7 @@ pub fn judge_normal(train: u32, blk1: &[u8], blk2: &[u8], offset: usize) -> Judg
 
 // The same of a control uplink burst and half a window.
 pub fn judge_control(blk1: &[u8], blk2: &[u8], offset: usize) -> Judged
-    ensures answers { result ≡ judgedControl blk1.now blk2.now offset }
+    ensures answers { result ≡ judged_control blk1.now blk2.now offset }
     ensures found { result.number ≡ accepted → ControlFound blk1.now blk2.now offset result }
 {
     let burst = build_cub(blk1, blk2);

@@ -1,8 +1,8 @@
 -- What was found, or is found from here on, is found in all.
 use Rattle.std.proofs.Common.{◌≡◌, drop}
 use mathlib.Core.Bool.{◌||◌}
-use Rattle.dsp_types.specs.Refusals.{notBits}
+use Rattle.dsp_types.specs.Refusals.{not_bits}
 use Rattle.dsp_types.proofs.not_bits.Given as goal
 
 abbrev pub invariant-loop-i : goal.invariant-loop-i
-invariant-loop-i l = notBits l.bytes ≡ (l.found || notBits (drop l.i l.bytes))
+invariant-loop-i l = not_bits l.bytes ≡ (l.found || not_bits (drop l.i l.bytes))

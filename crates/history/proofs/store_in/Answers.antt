@@ -1,13 +1,13 @@
 -- A run is stored as its elements would be one by one.
 use Rattle.std.proofs.Common.{◌≡◌, ◌+◌, ◌-◌, ◌%◌, ◌∙◌, length, take, drop, arith, rules}
 use lib.Seq.{take-length, take-add}
-use Rattle.history.specs.History.{heldAfter}
-use Rattle.history.proofs.Laws.{held-mod, place_after, after-append}
+use Rattle.history.specs.History.{held_after}
+use Rattle.history.proofs.Laws.{held_mod, place_after, after_append}
 use Rattle.history.proofs.store_in.Goals as goal
 
 pub loop-done-init : goal.loop-done-init
-unfolding heldAfter
-loop-done-init c = record { within = omega arith; place = search rules; held = held-mod c.args.ring.now c.args.at }
+unfolding held_after
+loop-done-init c = record { within = omega arith; place = search rules; held = held_mod c.args.ring.now c.args.at }
 
 pub loop-done-preserved : goal.loop-done-preserved
 loop-done-preserved c =
@@ -20,7 +20,7 @@ loop-done-preserved c =
     record {
       within = omega arith;
       place = stored.value ∙ rw (c.loop-done.invariant.place, w) (place_after 2048 (c.args.at % 2048) done run);
-      held = stored.result_after ∙ rw (c.loop-done.invariant.held, e, take-add done run from, after-append);
+      held = stored.result_after ∙ rw (c.loop-done.invariant.held, e, take-add done run from, after_append);
     }
 
 pub returns-clause-value : goal.returns-clause-value

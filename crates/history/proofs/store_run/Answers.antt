@@ -1,15 +1,15 @@
 -- Each turn writes one element more; at the end they are all of `from`.
 use Rattle.std.proofs.Common.{◌≡◌, ◌+◌, ◌%◌, ◌∙◌, length, arith, rules}
 use lib.Seq.{take-length}
-use Rattle.history.specs.History.{heldAfter}
-use Rattle.history.proofs.Laws.{held-mod, run_step}
+use Rattle.history.specs.History.{held_after}
+use Rattle.history.proofs.Laws.{held_mod, run_step}
 use Rattle.history.proofs.store_run.Goals as goal
 
 pub loop-n-init : goal.loop-n-init
-unfolding heldAfter
+unfolding held_after
 loop-n-init c =
     let e : (c.args.at % 2048 + 0) % 2048 ≡ c.args.at % 2048 = omega arith in
-    rw e (held-mod c.args.ring.now c.args.at)
+    rw e (held_mod c.args.ring.now c.args.at)
 
 pub loop-n-preserved : goal.loop-n-preserved
 loop-n-preserved c =

@@ -2,7 +2,7 @@
 use borrow.Author.Tests.{le-ltb}
 use lib.Ieee.{div, of_bits}
 use lib.Ieee.Bits.{nan_bits_above}
-use Rattle.iq_format.proofs.Parts.{nan-float}
+use Rattle.iq_format.proofs.Parts.{nan_float}
 use Rattle.iq_format.proofs.float.Goals as goal
 
 pub float_from_bits-result : goal.float_from_bits-result
@@ -10,4 +10,4 @@ float_from_bits-result c = rw (nan_bits_above, le-ltb 0x7f80_0000 _ c.if-pattern
 
 pub returns-then-pattern-gt2139095040 : goal.returns-then-pattern-gt2139095040
 unfolding div of_bits
-returns-then-pattern-gt2139095040 c = nan-float c.args.pattern c.if-pattern-gt2139095040.true
+returns-then-pattern-gt2139095040 c = nan_float c.args.pattern c.if-pattern-gt2139095040.true

@@ -2,12 +2,12 @@
 use Rattle.std.proofs.Common.{◌≡◌}
 use Rattle.text.specs.Text.{text_of, cut, ascii, decimal}
 use Rattle.text.proofs.Cutting.{then}
-use Rattle.lister.specs.Listing.{refusalLine}
+use Rattle.lister.specs.Listing.{refusal_line}
 use Rattle.lister.proofs.Short.{counts}
 use Rattle.lister.proofs.refused.Goals as goal
 
 pub returns : goal.returns
-unfolding ascii refusalLine
+unfolding ascii refusal_line
 returns c =
     let start : text_of c.append.result ≡ cut (ascii "refused=") = rw c.new.ensures.result_value at c.append.ensures.result_value in
     let number = then _ (decimal 20 c.args.number) start c.decimal.ensures.result_value in

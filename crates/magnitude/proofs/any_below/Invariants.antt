@@ -2,8 +2,8 @@
 use Rattle.std.proofs.Common.{◌≡◌, false, ℕ, ◌<◌, get_or}
 use Rattle.std.specs.Float.{nan}
 use Rattle.std.specs.Float.Ieee.{lt}
-use Rattle.dsp_types.specs.Samples.{zeroF}
+use Rattle.dsp_types.specs.Samples.{zero_f}
 use Rattle.magnitude.proofs.any_below.Given as goal
 
 abbrev pub invariant-loop-i : goal.invariant-loop-i
-invariant-loop-i l = l.found ≡ false → (k : ℕ) → k < l.i → lt (get_or l.xs k nan) zeroF ≡ false
+invariant-loop-i l = l.found ≡ false → (k : ℕ) → k < l.i → lt (get_or l.xs k nan) zero_f ≡ false

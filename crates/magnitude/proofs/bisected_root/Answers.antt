@@ -1,6 +1,6 @@
 -- The root lies from low up to below high, and the two come together.
 use Rattle.std.proofs.Common.{◌≡◌, ℕ, ◌+◌, ◌*◌, ◌-◌, ◌<◌, ◌≤◌, subst, arith}
-use Rattle.magnitude.proofs.Numbers.{small-square}
+use Rattle.magnitude.proofs.Numbers.{small_square}
 use Rattle.magnitude.proofs.bisected_root.Goals as goal
 
 pub loop-high-init : goal.loop-high-init
@@ -10,7 +10,7 @@ pub overflow_sub-high : goal.overflow_sub-high
 overflow_sub-high c = omega arith
 
 pub overflow_mul-middle : goal.overflow_mul-middle
-overflow_mul-middle c = record { fits = small-square _ (omega arith) }
+overflow_mul-middle c = record { fits = small_square _ (omega arith) }
 
 pub loop-high-smaller-then-middle-s : goal.loop-high-smaller-then-middle-s
 loop-high-smaller-then-middle-s c = omega arith

@@ -1,17 +1,17 @@
 -- The larger part has 24 digits at most, and the smaller one's square 48.
 use Rattle.std.proofs.Common.{rules, ◌^◌, ◌<◌, ◌∙◌}
-use Rattle.magnitude.proofs.Numbers.{sum-lt-49}
-use Rattle.magnitude.proofs.Aligned.{root-lt-25, small-square-lt, aligned_at}
+use Rattle.magnitude.proofs.Numbers.{sum_lt_49}
+use Rattle.magnitude.proofs.Aligned.{root_lt_25, small_square_lt, aligned_at}
 use Rattle.magnitude.proofs.larger_first.Goals as goal
 
 pub root-requires : goal.root-requires
-root-requires c = (search rules, rw (c.shifted_square-z.ensures, c.significand.ensures) (small-square-lt _ _))
+root-requires c = (search rules, rw (c.shifted_square-z.ensures, c.significand.ensures) (small_square_lt _ _))
 
 pub packed-requires : goal.packed-requires
 packed-requires c =
-    let z : c.shifted_square-z.result < 2 ^ 48 = rw (c.shifted_square-z.ensures, c.significand.ensures) (small-square-lt _ _) in
+    let z : c.shifted_square-z.result < 2 ^ 48 = rw (c.shifted_square-z.ensures, c.significand.ensures) (small_square_lt _ _) in
     let m : c.significand-m.result < 2 ^ 24 = search rules in
-    (search rules, root-lt-25 _ c.root.result (sum-lt-49 _ _ m z) c.root.ensures.0)
+    (search rules, root_lt_25 _ c.root.result (sum_lt_49 _ _ m z) c.root.ensures.0)
 
 pub returns : goal.returns
 returns c =

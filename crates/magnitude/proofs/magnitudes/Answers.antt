@@ -1,6 +1,6 @@
 -- In the first loop i values are guessed; in the second i are mended where they have to be.
 use Rattle.std.proofs.Common.{◌<◌, min, length, refl, ap, ◌∙◌, rules, arith}
-use Rattle.magnitude.proofs.Blocks.{guessed-one, mended-one, kept-one, none-to-mend, to-mend, all-mended}
+use Rattle.magnitude.proofs.Blocks.{guessed_one, mended_one, kept_one, none_to_mend, to_mend, all_mended}
 use Rattle.magnitude.proofs.magnitudes.Goals as goal
 use Rattle.magnitude.proofs.magnitudes.Goals.{then-out-i, else-out-i}
 
@@ -10,12 +10,12 @@ loop-i-init c = record { long = refl; rest = refl; told = λ k h. absurd (omega 
 pub loop-i-preserved : goal.loop-i-preserved
 loop-i-preserved c =
     let l = c.loop-i in
-    guessed-one c.args.re.now c.args.im.now c.args.out.now l.out _ l.i (search rules) (search rules) c.quick.result c.quick.ensures l.invariant
+    guessed_one c.args.re.now c.args.im.now c.args.out.now l.out _ l.i (search rules) (search rules) c.quick.result c.quick.ensures l.invariant
 
 pub loop-i-then-any_below-init : goal.loop-i-then-any_below-init
 loop-i-then-any_below-init c =
     let l = c.loop-i in
-    to-mend c.args.re.now c.args.im.now c.args.out.now l.out _ l.i (c.least-n.ensures ∙ ap (λ n. min n (length c.args.out.now)) c.least.ensures) (search rules) l.invariant
+    to_mend c.args.re.now c.args.im.now c.args.out.now l.out _ l.i (c.least-n.ensures ∙ ap (λ n. min n (length c.args.out.now)) c.least.ensures) (search rules) l.invariant
 
 pub loop-i-then-any_below-preserved : goal.loop-i-then-any_below-preserved
 loop-i-then-any_below-preserved c =
@@ -24,17 +24,17 @@ loop-i-then-any_below-preserved c =
     let h : l.i < c.least-n.result = omega arith in
     let k : l.i < length l.out = omega (arith, l.invariant.long) in
     elim c.if-out-i.branch [
-      | then-out-i w ↦ rw w.out-is (mended-one c.args.re.now c.args.im.now o l.out _ l.i h k w.exact.result w.exact.ensures l.invariant)
-      | else-out-i w ↦ rw w.out-is (kept-one c.args.re.now c.args.im.now o l.out _ l.i h w.if-out-i.false l.invariant)
+      | then-out-i w ↦ rw w.out-is (mended_one c.args.re.now c.args.im.now o l.out _ l.i h k w.exact.result w.exact.ensures l.invariant)
+      | else-out-i w ↦ rw w.out-is (kept_one c.args.re.now c.args.im.now o l.out _ l.i h w.if-out-i.false l.invariant)
     ]
 
 pub returns-after-loop-i-then-any_below : goal.returns-after-loop-i-then-any_below
 returns-after-loop-i-then-any_below c =
     let m = c.loop-i-then-any_below in
     let l = c.loop-i in
-    all-mended c.args.re.now c.args.im.now c.args.out.now l.out _ l.i (c.least-n.ensures ∙ ap (λ n. min n (length c.args.out.now)) c.least.ensures) (search rules) l.invariant m.out m.i (search rules) m.invariant
+    all_mended c.args.re.now c.args.im.now c.args.out.now l.out _ l.i (c.least-n.ensures ∙ ap (λ n. min n (length c.args.out.now)) c.least.ensures) (search rules) l.invariant m.out m.i (search rules) m.invariant
 
 pub returns-else-any_below : goal.returns-else-any_below
 returns-else-any_below c =
     let l = c.loop-i in
-    none-to-mend c.args.re.now c.args.im.now c.args.out.now l.out _ l.i (c.least-n.ensures ∙ ap (λ n. min n (length c.args.out.now)) c.least.ensures) (search rules) l.invariant (c.if-any_below.ensures refl)
+    none_to_mend c.args.re.now c.args.im.now c.args.out.now l.out _ l.i (c.least-n.ensures ∙ ap (λ n. min n (length c.args.out.now)) c.least.ensures) (search rules) l.invariant (c.if-any_below.ensures refl)

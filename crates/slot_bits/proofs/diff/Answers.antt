@@ -1,8 +1,8 @@
 -- The operations are the definition's.
 use Rattle.std.proofs.Common.{refl}
-use Rattle.slot_bits.specs.SlotBits.{diffOf}
+use Rattle.slot_bits.specs.SlotBits.{diff_of}
 use Rattle.slot_bits.proofs.diff.Goals as goal
 
 pub returns : goal.returns
-unfolding diffOf
+unfolding diff_of
 returns c = refl

@@ -1,10 +1,10 @@
 -- What is tested is the definition's.
 use Rattle.std.proofs.Common.{◌∙◌}
-use Rattle.slotter.specs.Bursts.{blockRefusal}
+use Rattle.slotter.specs.Bursts.{block_refusal}
 use Rattle.slotter.proofs.block_refusal.Goals as goal
 
 pub returns : goal.returns
-unfolding blockRefusal
+unfolding block_refusal
 returns c =
     c.length_or_bit.ensures
     ∙ rw (c.wrong_length.ensures, c.wrong_length-2.ensures, c.wrong_length-3.ensures, c.not_bits.ensures, c.not_bits-2.ensures, c.not_bits-3.ensures)

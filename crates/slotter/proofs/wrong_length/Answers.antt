@@ -1,8 +1,8 @@
 -- The test is the definition's.
 use Rattle.std.proofs.Common.{refl}
-use Rattle.dsp_types.specs.Refusals.{wrongLength}
+use Rattle.dsp_types.specs.Refusals.{wrong_length}
 use Rattle.slotter.proofs.wrong_length.Goals as goal
 
 pub returns : goal.returns
-unfolding wrongLength
+unfolding wrong_length
 returns c = refl

@@ -2,9 +2,9 @@
 use Rattle.std.proofs.Common.{refl}
 use lib.Ieee.{of_bits}
 use Rattle.timing.specs.Floats.{bend}
-use Rattle.timing.specs.Turns.{curveOf}
+use Rattle.timing.specs.Turns.{curve_of}
 use Rattle.timing.proofs.curve.Goals as goal
 
 pub returns : goal.returns
-unfolding curveOf bend of_bits
+unfolding curve_of bend of_bits
 returns c = refl

@@ -1,10 +1,10 @@
 -- By the number of bytes.
 use Rattle.std.proofs.Common.{◌∙◌}
-use Rattle.block_text.proofs.Offsets.{one-digit, two_digits, no_number}
+use Rattle.block_text.proofs.Offsets.{one_digit, two_digits, no_number}
 use Rattle.block_text.proofs.uplink.offset_of.Goals as goal
 
 pub returns-then-word-eq1 : goal.returns-then-word-eq1
-returns-then-word-eq1 c = c.digit_of.ensures.value ∙ one-digit c.args.word.now c.if-word-eq1.true
+returns-then-word-eq1 c = c.digit_of.ensures.value ∙ one_digit c.args.word.now c.if-word-eq1.true
 
 pub returns-then-word-eq2 : goal.returns-then-word-eq2
 returns-then-word-eq2 c =

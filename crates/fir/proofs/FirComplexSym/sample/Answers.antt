@@ -1,11 +1,11 @@
 -- Both parts are shifted, and filtered as they then stand.
 use Rattle.std.proofs.Common.{◌≡◌, ◌∙◌, length, rules}
-use Rattle.fir.specs.Fir.{line_of, filterOf}
-use Rattle.fir.proofs.Rows.{rows-line, rows_out}
+use Rattle.fir.specs.Fir.{line_of, filter_of}
+use Rattle.fir.proofs.Rows.{rows_line, rows_out}
 use Rattle.fir.proofs.FirComplexSym.sample.Goals as goal
 
 pub returns-clause-out : goal.returns-clause-out
-unfolding line_of filterOf
+unfolding line_of filter_of
 returns-clause-out c =
     let line = c.args.self in
     let v : length line.re ≡ 32 = search rules in
@@ -19,4 +19,4 @@ returns-clause-line c =
     let line = c.args.self in
     let v : length line.re ≡ 32 = search rules in
     let w : length line.im ≡ 32 = search rules in
-    rw (c.shifted-re.ensures, c.shifted-im.ensures) (rows-line line.re line.im c.args.in_ v w)
+    rw (c.shifted-re.ensures, c.shifted-im.ensures) (rows_line line.re line.im c.args.in_ v w)

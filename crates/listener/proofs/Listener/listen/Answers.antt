@@ -1,12 +1,12 @@
 -- Filter, magnitude and rings, each by its own equation.
 use Rattle.std.proofs.Common.{◌∙◌, sym}
 use Rattle.fir.specs.Fir.{line_of}
-use Rattle.listener.specs.View.{signalOf}
+use Rattle.listener.specs.View.{signal_of}
 use Rattle.listener.proofs.Hearing.{heard}
 use Rattle.listener.proofs.Listener.listen.Goals as goal
 
 pub returns : goal.returns
-unfolding signalOf
+unfolding signal_of
 returns c =
     let a = c.args in
     let l = a.self in

@@ -1,14 +1,14 @@
 -- What was written and what is still to be fed are all that is fed.
 use Rattle.std.proofs.Common.{◌≡◌, ◌-◌, ◌++◌, take}
-use Rattle.fir.specs.Fir.{reOf, imOf}
-use Rattle.modulator.specs.Blocks.{placeDue, inputsOf, phasesOf}
+use Rattle.fir.specs.Fir.{re_of, im_of}
+use Rattle.modulator.specs.Blocks.{place_due, inputs_of, phases_of}
 use Rattle.modulator.proofs.block.fill.Given as goal
 
 abbrev pub invariant-loop-n : goal.invariant-loop-n
 invariant-loop-n l =
-    let due = placeDue l.counter l.start l.has_bits l.bits in
+    let due = place_due l.counter l.start l.has_bits l.bits in
     record {
-      re_part : take l.n l.re ++ reOf (inputsOf due (l.count - l.n) l.n l.next) ≡ reOf (inputsOf due l.count 0 l.phase);
-      im_part : take l.n l.im ++ imOf (inputsOf due (l.count - l.n) l.n l.next) ≡ imOf (inputsOf due l.count 0 l.phase);
-      phase_left : phasesOf due (l.count - l.n) l.n l.next ≡ phasesOf due l.count 0 l.phase;
+      re_part : take l.n l.re ++ re_of (inputs_of due (l.count - l.n) l.n l.next) ≡ re_of (inputs_of due l.count 0 l.phase);
+      im_part : take l.n l.im ++ im_of (inputs_of due (l.count - l.n) l.n l.next) ≡ im_of (inputs_of due l.count 0 l.phase);
+      phase_left : phases_of due (l.count - l.n) l.n l.next ≡ phases_of due l.count 0 l.phase;
     }

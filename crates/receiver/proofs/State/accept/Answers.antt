@@ -1,28 +1,28 @@
 -- The zeros, then the sample.
 use Rattle.std.proofs.Common.{◌≡◌, pos, ◌+ℤ◌, ap, sym, ◌∙◌}
-use Rattle.slot_receiver.specs.Receiver.{Receiver, with_next, processSample, feedZeros, zerosBefore, accept}
-use Rattle.slot_receiver.specs.Windows.{handsOver, windowOf, zerosWindows}
-use Rattle.slot_receiver.specs.View.{receiverFrom}
-use Rattle.receiver.specs.View.{receiverOf}
-use Rattle.receiver.proofs.Handing.{accept-hands}
-use Rattle.receiver.proofs.Samples.{next-counter}
+use Rattle.slot_receiver.specs.Receiver.{Receiver, with_next, process_sample, feed_zeros, zeros_before, accept}
+use Rattle.slot_receiver.specs.Windows.{hands_over, window_of, zeros_windows}
+use Rattle.slot_receiver.specs.View.{receiver_from}
+use Rattle.receiver.specs.View.{receiver_of}
+use Rattle.receiver.proofs.Handing.{accept_hands}
+use Rattle.receiver.proofs.Samples.{next_counter_lem}
 use Rattle.receiver.proofs.State.accept.Goals as goal
 
 pub returns-clause-handed : goal.returns-clause-handed
 returns-clause-handed c =
-    let r = receiverOf c.args.self c.args.re.now c.args.im.now c.args.abs.now in
+    let r = receiver_of c.args.self c.args.re.now c.args.im.now c.args.abs.now in
     let k = c.args.counter.0 in
-    let z : c.catch_up-caught.result.handed ≡ handsOver (zerosWindows (zerosBefore r k) r k) = c.catch_up-caught.ensures.handed in
-    let h : c.process_sample-heard.result.handed ≡ handsOver (windowOf (feedZeros (zerosBefore r k) r k) c.args.input k) =
+    let z : c.catch_up-caught.result.handed ≡ hands_over (zeros_windows (zeros_before r k) r k) = c.catch_up-caught.ensures.handed in
+    let h : c.process_sample-heard.result.handed ≡ hands_over (window_of (feed_zeros (zeros_before r k) r k) c.args.input k) =
     rw c.catch_up-caught.ensures.state at c.process_sample-heard.ensures.handed in
-    rw (z, h) (sym (accept-hands r c.args.input k))
+    rw (z, h) (sym (accept_hands r c.args.input k))
 
 pub returns-clause-state : goal.returns-clause-state
-unfolding accept receiverOf receiverFrom with_next
+unfolding accept receiver_of receiver_from with_next
 returns-clause-state c =
-    let r = receiverOf c.args.self c.args.re.now c.args.im.now c.args.abs.now in
+    let r = receiver_of c.args.self c.args.re.now c.args.im.now c.args.abs.now in
     let k = c.args.counter.0 in
     let h = c.process_sample-heard in
-    let e : receiverOf h.result.state h.new.re h.new.im h.new.abs ≡ processSample (feedZeros (zerosBefore r k) r k) c.args.input k = rw c.catch_up-caught.ensures.state at h.ensures.state in
-    let n : c.plus-next.result.0 ≡ k +ℤ pos 1 = c.plus-next.ensures ∙ next-counter k c.requires.0 in
-    ap (λ (q : Receiver). with_next q c.plus-next.result.0) e ∙ ap (with_next (processSample (feedZeros (zerosBefore r k) r k) c.args.input k)) n
+    let e : receiver_of h.result.state h.new.re h.new.im h.new.abs ≡ process_sample (feed_zeros (zeros_before r k) r k) c.args.input k = rw c.catch_up-caught.ensures.state at h.ensures.state in
+    let n : c.plus-next.result.0 ≡ k +ℤ pos 1 = c.plus-next.ensures ∙ next_counter_lem k c.requires.0 in
+    ap (λ (q : Receiver). with_next q c.plus-next.result.0) e ∙ ap (with_next (process_sample (feed_zeros (zeros_before r k) r k) c.args.input k)) n

@@ -1,17 +1,17 @@
 -- The zeros left, fed from here, come to what all of them would; what was handed over so far is told.
 use Rattle.std.proofs.Common.{◌≡◌, ◌≤◌, ◌||◌}
-use Rattle.slot_receiver.specs.Receiver.{feedZeros}
-use Rattle.slot_receiver.specs.Windows.{handsOver, zerosWindows}
-use Rattle.receiver.specs.View.{receiverOf}
+use Rattle.slot_receiver.specs.Receiver.{feed_zeros}
+use Rattle.slot_receiver.specs.Windows.{hands_over, zeros_windows}
+use Rattle.receiver.specs.View.{receiver_of}
 use Rattle.receiver.proofs.State.catch_up.Given as goal
 
 abbrev pub invariant-loop-left : goal.invariant-loop-left
 invariant-loop-left l = record {
   few : l.left ≤ l.initial.left;
-  fed : feedZeros l.initial.left (receiverOf l.fn.self l.fn.re l.fn.im l.fn.abs) l.counter.0 ≡ feedZeros l.left (receiverOf l.d l.re l.im l.abs) l.counter.0;
+  fed : feed_zeros l.initial.left (receiver_of l.fn.self l.fn.re l.fn.im l.fn.abs) l.counter.0 ≡ feed_zeros l.left (receiver_of l.d l.re l.im l.abs) l.counter.0;
   windows :
-      handsOver (zerosWindows l.initial.left (receiverOf l.fn.self l.fn.re l.fn.im l.fn.abs) l.counter.0)
-      ≡ (l.handed || handsOver (zerosWindows l.left (receiverOf l.d l.re l.im l.abs) l.counter.0));
+      hands_over (zeros_windows l.initial.left (receiver_of l.fn.self l.fn.re l.fn.im l.fn.abs) l.counter.0)
+      ≡ (l.handed || hands_over (zeros_windows l.left (receiver_of l.d l.re l.im l.abs) l.counter.0));
 }
 
 abbrev pub decreases-loop-left : goal.decreases-loop-left

@@ -7,20 +7,20 @@ use mir.ValLaws.{to_z_pos}
 use Rattle.dsp_types.specs.declared.ComplexSample.{ComplexSample}
 use Rattle.dsp_types.specs.Ints.{up, dn}
 use Rattle.dsp_types.specs.Times.{fitted}
-use Rattle.fir.specs.Fir.{samplesOf}
-use Rattle.slot_receiver.specs.Receiver.{Receiver, validCount}
-use Rattle.slot_receiver.specs.Calls.{sampleRefusal}
-use Rattle.slot_receiver.specs.View.{receiverFrom}
+use Rattle.fir.specs.Fir.{samples_of}
+use Rattle.slot_receiver.specs.Receiver.{Receiver, valid_count}
+use Rattle.slot_receiver.specs.Calls.{sample_refusal}
+use Rattle.slot_receiver.specs.View.{receiver_from}
 use Rattle.slot_receiver.specs.Bounds.{Within}
-use Rattle.slot_receiver.proofs.Signed.{plus-is, within-pos}
-use Rattle.receiver.specs.Feed.{interleaved, feedOf}
+use Rattle.slot_receiver.proofs.Signed.{plus_is, within_pos}
+use Rattle.receiver.specs.Feed.{interleaved, feed_of}
 use Rattle.receiver.specs.Hearing.{Judges}
-use Rattle.receiver.specs.View.{receiverOf}
-use Rattle.receiver.proofs.Samples.{Heard, not-refused, next-counter}
-use Rattle.receiver.proofs.Feeding.{ahead, none_yet, tell, part, next-sample, no-sample, at-end, at-refused, at_slot, at_next}
+use Rattle.receiver.specs.View.{receiver_of}
+use Rattle.receiver.proofs.Samples.{Heard, not_refused, next_counter_lem}
+use Rattle.receiver.proofs.Feeding.{ahead, none_yet, tell, part, next_sample, no_sample, at_end, at_refused, at_slot, at_next}
 use Rattle.receiver.proofs.Keeping.{QuietAt, quiet_at, kept_block}
-use Rattle.receiver.proofs.Rows.{samples-count}
-use Rattle.receiver.proofs.Views.{untouched-receiver, untouched-both}
+use Rattle.receiver.proofs.Rows.{samples_count}
+use Rattle.receiver.proofs.Views.{untouched_receiver, untouched_both}
 use Rattle.receiver.proofs.State.feed.Goals as goal
 use Rattle.receiver.proofs.State.feed.Goals.{Then-len-gt0, After-hear-judged, Else-judged-ne-ACCEPTED}
 
@@ -30,27 +30,27 @@ loop-taken-init c = record {
   x_long = refl;
   y_long = refl;
   fed = none_yet _ _ _;
-  untouched = λ _. record { state = refl; past-re = refl; past-im = refl; past-abs = refl };
+  untouched = λ _. record { state = refl; past_re = refl; past_im = refl; past_abs = refl };
 }
 
 -- ---- a block of samples that are only kept
 
-quiet : (c : Then-len-gt0) → let t = c.loop-taken in QuietAt (receiverOf t.s t.re t.im t.abs) t.counter.0 c.parts_of-len.result
-unfolding receiverOf receiverFrom
+quiet : (c : Then-len-gt0) → let t = c.loop-taken in QuietAt (receiver_of t.s t.re t.im t.abs) t.counter.0 c.parts_of-len.result
+unfolding receiver_of receiver_from
 quiet c =
     let t = c.loop-taken in
     let some : 0 < c.quiet_samples.result = omega arith in
-    quiet_at (receiverOf t.s t.re t.im t.abs) t.counter.0 c.quiet_samples.result c.parts_of-len.result some (c.quiet_samples.ensures some) c.parts_of-len.ensures.few.0
+    quiet_at (receiver_of t.s t.re t.im t.abs) t.counter.0 c.quiet_samples.result c.parts_of-len.result some (c.quiet_samples.ensures some) c.parts_of-len.ensures.few.0
 
 -- the counter behind the block
 behind : (c : Then-len-gt0) → fitted (c.loop-taken.counter.0 +ℤ to_z w64 c.parts_of-len.result) ≡ c.loop-taken.counter.0 +ℤ pos c.parts_of-len.result
 behind c =
     let q = (quiet c).quiet in
     rw (to_z_pos w64 c.parts_of-len.result (omega arith))
-    (plus-is (counter-low c.loop-taken.counter.0 q.low (omega (arith, q.high))) (within-pos (2 ^ 61) (omega arith)))
+    (plus_is (counter_low c.loop-taken.counter.0 q.low (omega (arith, q.high))) (within_pos (2 ^ 61) (omega arith)))
   where
-    counter-low : (z : ℤ) → dn z ≤ 0 → up z ≤ 2 ^ 37 → Within (2 ^ 61) z
-    counter-low z l h = record { high = omega (arith, h); low = omega (arith, l) }
+    counter_low : (z : ℤ) → dn z ≤ 0 → up z ≤ 2 ^ 37 → Within (2 ^ 61) z
+    counter_low z l h = record { high = omega (arith, h); low = omega (arith, l) }
 
 pub loop-taken-preserved-then-len-gt0 : goal.loop-taken-preserved-then-len-gt0
 loop-taken-preserved-then-len-gt0 c =
@@ -59,11 +59,11 @@ loop-taken-preserved-then-len-gt0 c =
     let p = c.parts_of-len in
     let xs = take p.result p.new.re in
     let ys = take p.result p.new.im in
-    let n = samples-count p.result xs ys (length-take-le p.result p.new.re (omega arith)) (length-take-le p.result p.new.im (omega arith)) in
+    let n = samples_count p.result xs ys (length-take-le p.result p.new.re (omega arith)) (length-take-le p.result p.new.im (omega arith)) in
     let e =
-    kept_block (samplesOf xs ys) (interleaved (drop (2 * (t.taken + p.result)) c.args.samples.now)) _ t.taken (receiverOf t.s t.re t.im t.abs) t.counter.0
+    kept_block (samples_of xs ys) (interleaved (drop (2 * (t.taken + p.result)) c.args.samples.now)) _ t.taken (receiver_of t.s t.re t.im t.abs) t.counter.0
     (rw n (quiet i)) p.ensures.fine (rw p.ensures.same at t.invariant.fed) in
-    let all : take 512 (samplesOf xs ys) ≡ samplesOf xs ys = take_all 512 (samplesOf xs ys) (omega (arith, n)) in
+    let all : take 512 (samples_of xs ys) ≡ samples_of xs ys = take_all 512 (samples_of xs ys) (omega (arith, n)) in
     record {
       within = p.ensures.few.2;
       x_long = p.ensures.long.0;
@@ -76,14 +76,14 @@ loop-taken-preserved-then-len-gt0 c =
 
 module _ (c : After-hear-judged) where
   abbrev given : Receiver
-  given = receiverOf c.args.self c.args.re.now c.args.im.now c.args.abs.now
+  given = receiver_of c.args.self c.args.re.now c.args.im.now c.args.abs.now
 
   abbrev receiver : Receiver
-  receiver = let t = c.loop-taken in receiverOf t.s t.re t.im t.abs
+  receiver = let t = c.loop-taken in receiver_of t.s t.re t.im t.abs
 
   -- the receiver after the sample
   abbrev after : Receiver
-  after = let h = c.hear-judged in receiverOf h.result.state h.new.re h.new.im h.new.abs
+  after = let h = c.hear-judged in receiver_of h.result.state h.new.re h.new.im h.new.abs
 
   abbrev sample : ComplexSample
   sample = part c.args.samples.now c.loop-taken.taken
@@ -92,19 +92,19 @@ module _ (c : After-hear-judged) where
   judges = c.hear-judged.ensures.judged
 
   -- the block as it stands in this turn, its next sample first
-  left : feedOf given (interleaved c.args.samples.now) c.args.first.0
-      ≡ ahead c.loop-taken.taken (feedOf receiver (sample ∷ interleaved (drop (2 * (c.loop-taken.taken + 1)) c.args.samples.now)) c.loop-taken.counter.0)
-  left = rw (next-sample c.args.samples.now c.loop-taken.taken (omega arith)) at c.loop-taken.invariant.fed
+  left : feed_of given (interleaved c.args.samples.now) c.args.first.0
+      ≡ ahead c.loop-taken.taken (feed_of receiver (sample ∷ interleaved (drop (2 * (c.loop-taken.taken + 1)) c.args.samples.now)) c.loop-taken.counter.0)
+  left = rw (next_sample c.args.samples.now c.loop-taken.taken (omega arith)) at c.loop-taken.invariant.fed
 
 pub returns-then-judged-ne-ACCEPTED : goal.returns-then-judged-ne-ACCEPTED
 returns-then-judged-ne-ACCEPTED c =
     let h = (goal.at.returns-then-judged-ne-ACCEPTED c).After-hear-judged in
     let u = c.hear-judged.ensures.refused c.if-judged-ne-ACCEPTED.true in
-    let t = tell _ _ (at-refused _ _ _ _ _ _ (left h) _ (judges h).refusal c.if-judged-ne-ACCEPTED.true) (refl, (refl, untouched-receiver u)) in
-    record { taken = t.0; stop = t.1.0; receiver = t.1.1; refused = λ z. untouched-both (c.loop-taken.invariant.untouched z) u }
+    let t = tell _ _ (at_refused _ _ _ _ _ _ (left h) _ (judges h).refusal c.if-judged-ne-ACCEPTED.true) (refl, (refl, untouched_receiver u)) in
+    record { taken = t.0; stop = t.1.0; receiver = t.1.1; refused = λ z. untouched_both (c.loop-taken.invariant.untouched z) u }
 
 -- ... and is not refused
-accepted : (c : Else-judged-ne-ACCEPTED) → let t = c.loop-taken in sampleRefusal (validCount (receiverOf t.s t.re t.im t.abs).next) (part c.args.samples.now t.taken) t.counter.0 ≡ 0
+accepted : (c : Else-judged-ne-ACCEPTED) → let t = c.loop-taken in sample_refusal (valid_count (receiver_of t.s t.re t.im t.abs).next) (part c.args.samples.now t.taken) t.counter.0 ≡ 0
 accepted c = sym (c.hear-judged.ensures.judged).refusal ∙ c.if-judged-ne-ACCEPTED.false
 
 pub returns-then-judged : goal.returns-then-judged
@@ -120,15 +120,15 @@ loop-taken-preserved c =
     let h = (goal.at.loop-taken-preserved c).After-hear-judged in
     let k = accepted (goal.at.loop-taken-preserved c).Else-judged-ne-ACCEPTED in
     let no = c.if-judged-ne-ACCEPTED.false in
-    let heard : Heard (validCount (receiver h).next) c.loop-taken.counter.0 = not-refused _ _ _ k in
+    let heard : Heard (valid_count (receiver h).next) c.loop-taken.counter.0 = not_refused _ _ _ k in
     record {
       within = omega arith;
       x_long = c.parts_of-len.ensures.long.0;
       y_long = c.parts_of-len.ensures.long.1;
       fed =
           at_next _ _ _ _ _ _ (left h) k (after h) ((judges h).receiver no) c.hear-judged.result.handed ((judges h).windows no) c.if-judged.false
-          ∙ ap (λ (z : ℤ). ahead (c.loop-taken.taken + 1) (feedOf (after h) (interleaved (drop (2 * (c.loop-taken.taken + 1)) c.args.samples.now)) z))
-          (sym (c.plus-counter-else-len-gt0.ensures ∙ next-counter _ heard.counter));
+          ∙ ap (λ (z : ℤ). ahead (c.loop-taken.taken + 1) (feed_of (after h) (interleaved (drop (2 * (c.loop-taken.taken + 1)) c.args.samples.now)) z))
+          (sym (c.plus-counter-else-len-gt0.ensures ∙ next_counter_lem _ heard.counter));
       untouched = λ z. absurd (omega (arith, z));
     }
 
@@ -136,5 +136,5 @@ loop-taken-preserved c =
 
 pub returns : goal.returns
 returns c =
-    let t = tell _ _ (at-end _ _ _ _ (rw (no-sample c.args.samples.now c.loop-taken.taken (omega arith)) at c.loop-taken.invariant.fed)) (refl, (refl, refl)) in
+    let t = tell _ _ (at_end _ _ _ _ (rw (no_sample c.args.samples.now c.loop-taken.taken (omega arith)) at c.loop-taken.invariant.fed)) (refl, (refl, refl)) in
     record { taken = t.0; stop = t.1.0; receiver = t.1.1; refused = c.loop-taken.invariant.untouched }

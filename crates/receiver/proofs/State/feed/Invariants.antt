@@ -1,7 +1,7 @@
 -- What is left, fed from here, ends where all of it would.
 use Rattle.std.proofs.Common.{◌≡◌, ◌-◌, ◌*◌, ◌/◌, ◌≤◌, length, drop}
-use Rattle.receiver.specs.Feed.{interleaved, feedOf}
-use Rattle.receiver.specs.View.{receiverOf, Untouched}
+use Rattle.receiver.specs.Feed.{interleaved, feed_of}
+use Rattle.receiver.specs.View.{receiver_of, Untouched}
 use Rattle.receiver.proofs.Feeding.{ahead}
 use Rattle.receiver.proofs.State.feed.Given as goal
 
@@ -11,8 +11,8 @@ invariant-loop-taken l = record {
   x_long : length l.x ≡ 512;
   y_long : length l.y ≡ 512;
   fed :
-      feedOf (receiverOf l.fn.self l.fn.re l.fn.im l.fn.abs) (interleaved l.samples) l.fn.first.0
-      ≡ ahead l.taken (feedOf (receiverOf l.s l.re l.im l.abs) (interleaved (drop (2 * l.taken) l.samples)) l.counter.0);
+      feed_of (receiver_of l.fn.self l.fn.re l.fn.im l.fn.abs) (interleaved l.samples) l.fn.first.0
+      ≡ ahead l.taken (feed_of (receiver_of l.s l.re l.im l.abs) (interleaved (drop (2 * l.taken) l.samples)) l.counter.0);
   untouched : l.taken ≡ 0 → Untouched l.fn.self l.s l.fn.re l.re l.fn.im l.im l.fn.abs l.abs;
 }
 

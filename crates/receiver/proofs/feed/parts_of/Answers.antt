@@ -1,6 +1,6 @@
 -- At first no sample is split; each turn splits one more that is not too large.
 use Rattle.std.proofs.Common.{arith, rules}
-use Rattle.receiver.proofs.Rows.{split-none, split_one}
+use Rattle.receiver.proofs.Rows.{split_none, split_one}
 use Rattle.receiver.proofs.feed.parts_of.Goals as goal
 
 pub loop-len-init : goal.loop-len-init
@@ -11,7 +11,7 @@ loop-len-init c = record {
   within = search rules;
   re_long = search rules;
   im_long = search rules;
-  split = split-none _ _ _ _;
+  split = split_none _ _ _ _;
 }
 
 pub loop-len-preserved : goal.loop-len-preserved

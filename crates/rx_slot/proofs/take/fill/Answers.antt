@@ -1,6 +1,6 @@
 -- Each byte written is the bit that is there, or the zero behind them.
 use Rattle.std.proofs.Common.{map, arith, add-one}
-use Rattle.rx_slot.proofs.Laws.{fill_none, fill_step, bit, bit_at, zero-at}
+use Rattle.rx_slot.proofs.Laws.{fill_none, fill_step, bit, bit_at, zero_at}
 use Rattle.rx_slot.proofs.take.fill.Goals as goal
 
 pub loop-i-init : goal.loop-i-init
@@ -14,4 +14,4 @@ loop-i-preserved c =
 pub loop-i-2-preserved : goal.loop-i-2-preserved
 loop-i-2-preserved c =
     let l = c.loop-i-2 in
-    rw (l.invariant, ← zero-at c.args.bits.now l.i (omega arith), add-one l.i) (fill_step (map bit c.args.bits.now) c.loop-i.out l.i (omega arith))
+    rw (l.invariant, ← zero_at c.args.bits.now l.i (omega arith), add-one l.i) (fill_step (map bit c.args.bits.now) c.loop-i.out l.i (omega arith))

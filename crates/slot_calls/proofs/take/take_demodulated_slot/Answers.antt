@@ -1,60 +1,60 @@
 -- A refusal changes nothing, and three views fill the slices.
 use Rattle.std.proofs.Common.{rules, ◌≡◌, sym, ap, ◌∙◌, ℕ, ◌≤◌, List, [], ◌∷◌, length, take, length-take-le, ℤ, arith}
-use Rattle.dsp_types.specs.Refusals.{wrongLength}
+use Rattle.dsp_types.specs.Refusals.{wrong_length}
 use Rattle.listener.specs.Signal.{Signal}
 use Rattle.rx_slot.specs.declared.RxBurst.{RxBurst}
-use Rattle.rx_slot.specs.Views.{BurstView, storedView, validView, burstShown, padded}
-use Rattle.rx_slot.specs.Slots.{validSlot}
-use Rattle.rx_slot.proofs.Laws.{stored-front, slot-told, slot-filled}
-use Rattle.slot_receiver.specs.Receiver.{withWaits}
-use Rattle.slot_receiver.specs.Calls.{Outcome, took, takeRefusal, taken, takeOutcome, takeReplyOf, inNumbers}
-use Rattle.slot_receiver.specs.View.{receiverFrom}
-use Rattle.slot_receiver.proofs.Outcomes.{kept, unless-refused, unless-accepted}
-use Rattle.slot_calls.proofs.Taking.{right-lengths}
+use Rattle.rx_slot.specs.Views.{BurstView, stored_view, valid_view, burst_shown, padded}
+use Rattle.rx_slot.specs.Slots.{valid_slot}
+use Rattle.rx_slot.proofs.Laws.{stored_front, slot_told, slot_filled}
+use Rattle.slot_receiver.specs.Receiver.{with_waits}
+use Rattle.slot_receiver.specs.Calls.{Outcome, took, take_refusal, taken, take_outcome, take_reply_of, in_numbers}
+use Rattle.slot_receiver.specs.View.{receiver_from}
+use Rattle.slot_receiver.proofs.Outcomes.{kept, unless_refused, unless_accepted}
+use Rattle.slot_calls.proofs.Taking.{right_lengths}
 use Rattle.slot_calls.proofs.take.take_demodulated_slot.Goals as goal
 use Rattle.slot_calls.proofs.take.take_demodulated_slot.Goals.{Start, Then-refusal-ne-ACCEPTED, Else-refusal-ne-ACCEPTED}
 
 -- what a refused take comes to, and an answered one
 refused : (c : Then-refusal-ne-ACCEPTED) (next : ℤ) (signal : Signal) → let a = c.args in
-    takeOutcome (receiverFrom a.slots next signal) a.slot.now a.subslot1.now a.subslot2.now
-    ≡ kept c.take_refusal-refusal.result (receiverFrom a.slots next signal) (a.slot.now ∷ a.subslot1.now ∷ a.subslot2.now ∷ [])
-unfolding takeOutcome takeRefusal wrongLength receiverFrom
-refused c next signal = unless-refused _ _ _ c.take_refusal-refusal.ensures c.if-refusal-ne-ACCEPTED.true
+    take_outcome (receiver_from a.slots next signal) a.slot.now a.subslot1.now a.subslot2.now
+    ≡ kept c.take_refusal-refusal.result (receiver_from a.slots next signal) (a.slot.now ∷ a.subslot1.now ∷ a.subslot2.now ∷ [])
+unfolding take_outcome take_refusal wrong_length receiver_from
+refused c next signal = unless_refused _ _ _ c.take_refusal-refusal.ensures c.if-refusal-ne-ACCEPTED.true
 
 answered : (c : Else-refusal-ne-ACCEPTED) (next : ℤ) (signal : Signal) → let a = c.args in
-    takeOutcome (receiverFrom a.slots next signal) a.slot.now a.subslot1.now a.subslot2.now
-    ≡ taken (receiverFrom a.slots next signal) (validSlot (receiverFrom a.slots next signal).slot)
-unfolding takeOutcome takeRefusal wrongLength receiverFrom
-answered c next signal = unless-accepted _ _ _ (sym c.take_refusal-refusal.ensures ∙ c.if-refusal-ne-ACCEPTED.false)
+    take_outcome (receiver_from a.slots next signal) a.slot.now a.subslot1.now a.subslot2.now
+    ≡ taken (receiver_from a.slots next signal) (valid_slot (receiver_from a.slots next signal).slot)
+unfolding take_outcome take_refusal wrong_length receiver_from
+answered c next signal = unless_accepted _ _ _ (sym c.take_refusal-refusal.ensures ∙ c.if-refusal-ne-ACCEPTED.false)
 
 lengths : (c : Else-refusal-ne-ACCEPTED) → (length c.args.slot.now ≡ 510) × (length c.args.subslot1.now ≡ 254) × (length c.args.subslot2.now ≡ 254)
-unfolding takeRefusal wrongLength
+unfolding take_refusal wrong_length
 lengths c =
     let a = c.args in
-    right-lengths a.slot.now a.subslot1.now a.subslot2.now a.slots.demodulated_slot_available (sym c.take_refusal-refusal.ensures ∙ c.if-refusal-ne-ACCEPTED.false)
+    right_lengths a.slot.now a.subslot1.now a.subslot2.now a.slots.demodulated_slot_available (sym c.take_refusal-refusal.ensures ∙ c.if-refusal-ne-ACCEPTED.false)
 
 -- the stored bits are 510
 stored : (c : Start) → (length c.args.slots.full_bits ≡ 510) × (length c.args.slots.subslot1_bits ≡ 510) × (length c.args.slots.subslot2_bits ≡ 510)
 stored c = (search rules, search rules, search rules)
 
 -- a view of so many bits is one of the stored bits' front
-viewed : (n : ℕ) (bits : List ℕ) (b : RxBurst) → n ≤ length bits → validView (storedView (length (take n bits)) (take n bits) b) ≡ validView (storedView n bits b)
-viewed n bits b h = ap validView (stored-front n bits b h)
+viewed : (n : ℕ) (bits : List ℕ) (b : RxBurst) → n ≤ length bits → valid_view (stored_view (length (take n bits)) (take n bits) b) ≡ valid_view (stored_view n bits b)
+viewed n bits b h = ap valid_view (stored_front n bits b h)
 
-viewed-all : (bits : List ℕ) (b : RxBurst) → length bits ≡ 510 → validView (storedView (length bits) bits b) ≡ validView (storedView 510 bits b)
-viewed-all bits b e = rw e
+viewed_all : (bits : List ℕ) (b : RxBurst) → length bits ≡ 510 → valid_view (stored_view (length bits) bits b) ≡ valid_view (stored_view 510 bits b)
+viewed_all bits b e = rw e
 
 -- ... in a slice of the right length
-padded-as : {n k : ℕ} {v w : BurstView} → n ≡ k → v ≡ w → padded n v.bits ≡ padded k w.bits
-padded-as e f = rw (e, f)
+padded_as : {n k : ℕ} {v w : BurstView} → n ≡ k → v ≡ w → padded n v.bits ≡ padded k w.bits
+padded_as e f = rw (e, f)
 
 front : (bits : List ℕ) → length bits ≡ 510 → 254 ≡ length (take 254 bits)
 front bits e = sym (length-take-le 254 bits (omega (arith, e)))
 
 pub returns-then-refusal-ne-ACCEPTED-clause-answer : goal.returns-then-refusal-ne-ACCEPTED-clause-answer
-unfolding takeReplyOf inNumbers
+unfolding take_reply_of in_numbers
 returns-then-refusal-ne-ACCEPTED-clause-answer c = λ next signal.
-    sym (ap (λ (o : Outcome). inNumbers o.reply) (refused (goal.at.returns-then-refusal-ne-ACCEPTED-clause-answer c).Then-refusal-ne-ACCEPTED next signal))
+    sym (ap (λ (o : Outcome). in_numbers o.reply) (refused (goal.at.returns-then-refusal-ne-ACCEPTED-clause-answer c).Then-refusal-ne-ACCEPTED next signal))
 
 pub returns-then-refusal-ne-ACCEPTED-clause-receiver : goal.returns-then-refusal-ne-ACCEPTED-clause-receiver
 returns-then-refusal-ne-ACCEPTED-clause-receiver c = λ next signal.
@@ -71,33 +71,33 @@ pub slice_bounds-take_burst-end-3 : goal.slice_bounds-take_burst-end-3
 slice_bounds-take_burst-end-3 c = front c.args.slots.subslot2_bits (stored (goal.at.slice_bounds-take_burst-end-3 c).Start).2
 
 pub returns-clause-answer : goal.returns-clause-answer
-unfolding takeReplyOf inNumbers taken receiverFrom
+unfolding take_reply_of in_numbers taken receiver_from
 returns-clause-answer c = λ next signal.
     let k = goal.at.returns-clause-answer c in
     let d = c.args.slots in
     let b = d.demodulated_slot in
     let n = stored k.Start in
-    let f = viewed-all d.full_bits b.full n.0 in
+    let f = viewed_all d.full_bits b.full n.0 in
     let g = viewed 254 d.subslot1_bits b.subslot1 (omega (arith, n.1)) in
     let h = viewed 254 d.subslot2_bits b.subslot2 (omega (arith, n.2)) in
     ap took
-    (slot-told (receiverFrom d next signal).slot _ _ _ _ _ c.to_int.ensures c.valid_closing-closing_counter.ensures (c.take_burst-full.ensures.told ∙ ap burstShown f) (c.take_burst-first.ensures.told ∙ ap burstShown g) (c.take_burst-second.ensures.told ∙ ap burstShown h))
-    ∙ sym (ap (λ (o : Outcome). inNumbers o.reply) (answered k.Else-refusal-ne-ACCEPTED next signal))
+    (slot_told (receiver_from d next signal).slot _ _ _ _ _ c.to_int.ensures c.valid_closing-closing_counter.ensures (c.take_burst-full.ensures.told ∙ ap burst_shown f) (c.take_burst-first.ensures.told ∙ ap burst_shown g) (c.take_burst-second.ensures.told ∙ ap burst_shown h))
+    ∙ sym (ap (λ (o : Outcome). in_numbers o.reply) (answered k.Else-refusal-ne-ACCEPTED next signal))
 
 pub returns-clause-receiver : goal.returns-clause-receiver
-unfolding taken withWaits receiverFrom
+unfolding taken with_waits receiver_from
 returns-clause-receiver c = λ next signal. sym (ap (λ (o : Outcome). o.receiver) (answered (goal.at.returns-clause-receiver c).Else-refusal-ne-ACCEPTED next signal))
 
 pub returns-clause-lent : goal.returns-clause-lent
-unfolding taken receiverFrom
+unfolding taken receiver_from
 returns-clause-lent c = λ next signal.
     let k = goal.at.returns-clause-lent c in
     let d = c.args.slots in
     let b = d.demodulated_slot in
     let l = lengths k.Else-refusal-ne-ACCEPTED in
     let n = stored k.Start in
-    let f = viewed-all d.full_bits b.full n.0 in
+    let f = viewed_all d.full_bits b.full n.0 in
     let g = viewed 254 d.subslot1_bits b.subslot1 (omega (arith, n.1)) in
     let h = viewed 254 d.subslot2_bits b.subslot2 (omega (arith, n.2)) in
-    slot-filled (receiverFrom d next signal).slot _ _ _ (c.take_burst-full.ensures.bytes ∙ padded-as l.0 f) (c.take_burst-first.ensures.bytes ∙ padded-as l.1 g) (c.take_burst-second.ensures.bytes ∙ padded-as l.2 h)
+    slot_filled (receiver_from d next signal).slot _ _ _ (c.take_burst-full.ensures.bytes ∙ padded_as l.0 f) (c.take_burst-first.ensures.bytes ∙ padded_as l.1 g) (c.take_burst-second.ensures.bytes ∙ padded_as l.2 h)
     ∙ sym (ap (λ (o : Outcome). o.lent) (answered k.Else-refusal-ne-ACCEPTED next signal))

@@ -2,43 +2,43 @@
 use Rattle.std.proofs.Common.{◌≡◌, sym, ap, subst, ◌∙◌, ℤ, pos}
 use Rattle.listener.specs.Signal.{Signal, unheard}
 use Rattle.slot_receiver.specs.declared.SlotReceiver.{SlotReceiver}
-use Rattle.slot_receiver.specs.Receiver.{Receiver, validCount, valid, skipped, ready, arrive}
-use Rattle.slot_receiver.specs.Windows.{windowAt}
+use Rattle.slot_receiver.specs.Receiver.{Receiver, valid_count, valid, skipped, ready, arrive}
+use Rattle.slot_receiver.specs.Windows.{window_at}
 use Rattle.slot_receiver.specs.Bounds.{Timed, Counter}
-use Rattle.slot_receiver.specs.View.{receiverFrom, clockOf}
-use Rattle.slot_receiver.proofs.Doors.{valid-timed, valid-counter}
-use Rattle.slot_receiver.proofs.Times.{skipped-timed}
+use Rattle.slot_receiver.specs.View.{receiver_from, clock_of}
+use Rattle.slot_receiver.proofs.Doors.{valid_timed, valid_counter}
+use Rattle.slot_receiver.proofs.Times.{skipped_timed}
 use Rattle.slot_receiver.proofs.SlotReceiver.arrive.Goals as goal
 use Rattle.slot_receiver.proofs.SlotReceiver.arrive.Goals.{After-valid_count-at, After-skipped}
 
-stored : (d : SlotReceiver) (r : Receiver) → receiverFrom d (pos 0) unheard ≡ r → Timed r.clock r.lock.misses → Timed (clockOf d) d.slots_since_last_valid_burst
-unfolding receiverFrom
+stored : (d : SlotReceiver) (r : Receiver) → receiver_from d (pos 0) unheard ≡ r → Timed r.clock r.lock.misses → Timed (clock_of d) d.slots_since_last_valid_burst
+unfolding receiver_from
 stored d r e h = subst (λ (q : Receiver). Timed q.clock q.lock.misses) (sym e) h
 
 counted : (c : After-valid_count-at) → Counter c.valid_count-at.result.0
-counted c = rw c.valid_count-at.ensures (valid-counter c.args.counter.0)
+counted c = rw c.valid_count-at.ensures (valid_counter c.args.counter.0)
 
 -- up to the close of a window
-readied : (c : After-skipped) (next : ℤ) (s : Signal) → receiverFrom c.skipped.result next s ≡ ready (receiverFrom c.args.self next s) (validCount c.args.counter.0)
+readied : (c : After-skipped) (next : ℤ) (s : Signal) → receiver_from c.skipped.result next s ≡ ready (receiver_from c.args.self next s) (valid_count c.args.counter.0)
 unfolding ready
 readied c next s =
     c.skipped.ensures next s
     ∙ ap (λ (r : Receiver). skipped r c.valid_count-at.result.0) (c.valid.ensures next s)
-    ∙ ap (skipped (valid (receiverFrom c.args.self next s))) c.valid_count-at.ensures
+    ∙ ap (skipped (valid (receiver_from c.args.self next s))) c.valid_count-at.ensures
 
 pub skipped-requires : goal.skipped-requires
 skipped-requires c =
-    (stored c.valid.result _ (c.valid.ensures (pos 0) unheard) (valid-timed (receiverFrom c.args.self (pos 0) unheard)), counted (goal.at.skipped-requires c).After-valid_count-at)
+    (stored c.valid.result _ (c.valid.ensures (pos 0) unheard) (valid_timed (receiver_from c.args.self (pos 0) unheard)), counted (goal.at.skipped-requires c).After-valid_count-at)
 
 pub close_if_ready-requires : goal.close_if_ready-requires
 unfolding ready
 close_if_ready-requires c =
     let k = goal.at.close_if_ready-requires c in
-    let r = receiverFrom c.args.self (pos 0) unheard in
-    (stored c.skipped.result _ (readied k.After-skipped (pos 0) unheard) (skipped-timed (valid r) (validCount c.args.counter.0) (valid-timed r)), counted k.After-valid_count-at)
+    let r = receiver_from c.args.self (pos 0) unheard in
+    (stored c.skipped.result _ (readied k.After-skipped (pos 0) unheard) (skipped_timed (valid r) (valid_count c.args.counter.0) (valid_timed r)), counted k.After-valid_count-at)
 
 pub returns-clause-handed : goal.returns-clause-handed
-unfolding windowAt
+unfolding window_at
 returns-clause-handed c = λ next inputs.
     rw (readied (goal.at.returns-clause-handed c).After-skipped, c.valid_count-at.ensures) at (c.close_if_ready.ensures.handed next inputs)
 

@@ -1,10 +1,10 @@
 -- The slot alone is anew.
-use Rattle.rx_slot.specs.Slots.{withViews}
-use Rattle.rx_slot.proofs.Laws.{no-stored}
-use Rattle.slot_receiver.specs.Receiver.{withSlot, emptied}
-use Rattle.slot_receiver.specs.View.{receiverFrom}
+use Rattle.rx_slot.specs.Slots.{with_views}
+use Rattle.rx_slot.proofs.Laws.{no_stored}
+use Rattle.slot_receiver.specs.Receiver.{with_slot, emptied}
+use Rattle.slot_receiver.specs.View.{receiver_from}
 use Rattle.slot_receiver.proofs.SlotReceiver.emptied.Goals as goal
 
 pub returns : goal.returns
-unfolding receiverFrom withSlot withViews emptied
-returns c = λ next s. rw (no-stored c.no_burst-full.ensures 510 c.args.self.full_bits)
+unfolding receiver_from with_slot with_views emptied
+returns c = λ next s. rw (no_stored c.no_burst-full.ensures 510 c.args.self.full_bits)

@@ -1,41 +1,41 @@
 -- A find's place is even and at most 256, so that its time is the definition's.
 use Rattle.std.proofs.Common.{rules, ◌≡◌, ap, ◌∙◌, List, [], length, take, take_all, ◌^◌, ◌≤◌, ℤ, pos, negsuc, lit≤, arith}
-use Rattle.dsp_types.proofs.Laws.{slot-below}
-use Rattle.burst_finder.specs.Search.{findSync, below}
+use Rattle.dsp_types.proofs.Laws.{slot_below}
+use Rattle.burst_finder.specs.Search.{find_sync, below}
 use Rattle.dsp_types.specs.declared.ComplexSample.{ComplexSample}
 use Rattle.listener.specs.Signal.{Signal}
-use Rattle.listener.specs.View.{signalFrom}
+use Rattle.listener.specs.View.{signal_from}
 use Rattle.slot_receiver.specs.declared.Mode.TheVariants.{Dl}
-use Rattle.slot_receiver.specs.Receiver.{Receiver, withMode, withClock, withLock, withSlot, setSlot}
-use Rattle.slot_receiver.specs.View.{receiverFrom, mode_of}
+use Rattle.slot_receiver.specs.Receiver.{Receiver, with_mode, with_clock, with_lock, with_slot, set_slot}
+use Rattle.slot_receiver.specs.View.{receiver_from, mode_of}
 use Rattle.slot_receiver.proofs.Signed.{wider}
 use Rattle.slot_receiver.proofs.Times.{found_within}
-use Rattle.slot_receiver.proofs.Views.{mode-search, found-place, search-missed, search-found}
+use Rattle.slot_receiver.proofs.Views.{mode_search, found_place, search_missed, search_found}
 use Rattle.slot_receiver.proofs.SlotReceiver.search_window.Goals as goal
 use Rattle.slot_receiver.proofs.SlotReceiver.search_window.Goals.{After-find_sync-found}
 
 abbrev heard : After-find_sync-found → List ComplexSample → Signal
-heard c inputs = signalFrom inputs c.args.re.now c.args.im.now c.args.abs.now c.args.index
+heard c inputs = signal_from inputs c.args.re.now c.args.im.now c.args.abs.now c.args.index
 
 abbrev receiver : After-find_sync-found → ℤ → List ComplexSample → Receiver
-receiver c next inputs = receiverFrom c.args.self next (heard c inputs)
+receiver c next inputs = receiver_from c.args.self next (heard c inputs)
 
 -- the array has the window's bits and no others
-searched : (c : After-find_sync-found) → c.find_sync-found.result ≡ below 2 (findSync (take 510 c.slot_window-w.result.bits))
+searched : (c : After-find_sync-found) → c.find_sync-found.result ≡ below 2 (find_sync (take 510 c.slot_window-w.result.bits))
 searched c =
     let e : length c.slot_window-w.result.bits ≡ 510 = search rules in
     c.find_sync-found.ensures ∙ rw (take_all 510 c.slot_window-w.result.bits (omega (arith, e)))
 
 place : (c : After-find_sync-found) → c.find_sync-found.result.dist ≤ 1 → c.find_sync-found.result.pos ≤ 256
-unfolding receiverFrom
-place c = found-place (receiver c (pos 0) []) c.slot_window-w.result (c.slot_window-w.ensures []) c.find_sync-found.result (searched c)
+unfolding receiver_from
+place c = found_place (receiver c (pos 0) []) c.slot_window-w.result (c.slot_window-w.ensures []) c.find_sync-found.result (searched c)
 
 pub returns-then-found-gt-MAX_ERRS : goal.returns-then-found-gt-MAX_ERRS
-unfolding receiverFrom
+unfolding receiver_from
 returns-then-found-gt-MAX_ERRS c = λ next at inputs.
     let a = (goal.at.returns-then-found-gt-MAX_ERRS c).After-find_sync-found in
     c.emptied.ensures next (heard a inputs)
-    ∙ search-missed (receiver a next inputs) c.slot_window-w.result (c.slot_window-w.ensures inputs) c.find_sync-found.result (searched a) at c.if-found-gt-MAX_ERRS.true
+    ∙ search_missed (receiver a next inputs) c.slot_window-w.result (c.slot_window-w.ensures inputs) c.find_sync-found.result (searched a) at c.if-found-gt-MAX_ERRS.true
 
 pub found_time-reference-requires : goal.found_time-reference-requires
 found_time-reference-requires c =
@@ -45,15 +45,15 @@ pub set_slot-locked-requires : goal.set_slot-locked-requires
 set_slot-locked-requires c =
     let a = (goal.at.set_slot-locked-requires c).After-find_sync-found in
     rw (c.found_time-reference.ensures, c.from_int-2.ensures)
-    (wider (2 ^ 40) (lit≤ tt) (found_within c.args.self.slot_ready_time.0 c.find_sync-found.result.pos c.requires.0.ready (place a c.if-found-gt-MAX_ERRS.false)), slot-below (negsuc 0))
+    (wider (2 ^ 40) (lit≤ tt) (found_within c.args.self.slot_ready_time.0 c.find_sync-found.result.pos c.requires.0.ready (place a c.if-found-gt-MAX_ERRS.false)), slot_below (negsuc 0))
 
 pub returns : goal.returns
-unfolding receiverFrom withMode withClock withLock withSlot mode_of
+unfolding receiver_from with_mode with_clock with_lock with_slot mode_of
 returns c = λ next at inputs.
     let a = (goal.at.returns c).After-find_sync-found in
     let e = c.averaged.result in
     let z = c.found_time-reference.result.0 in
-    ap (λ (r : Receiver). withMode r Dl) (c.set_slot-locked.ensures next (heard a inputs))
-    ∙ ap (λ (r : Receiver). withMode (withClock (withLock r (record { timingError = e; misses = 0 })) (setSlot r.mode z c.from_int-2.result.0)) Dl) (c.emptied-anew.ensures next (heard a inputs))
-    ∙ search-found (receiver a next inputs) c.slot_window-w.result (c.slot_window-w.ensures inputs) c.find_sync-found.result (searched a) at (mode_of c.args.self.mode) z e _ _
-    c.from_int.ensures c.from_int-2.ensures c.if-found-gt-MAX_ERRS.false (mode-search c.args.self.mode c.requires.1) c.found_time-reference.ensures c.averaged.ensures
+    ap (λ (r : Receiver). with_mode r Dl) (c.set_slot-locked.ensures next (heard a inputs))
+    ∙ ap (λ (r : Receiver). with_mode (with_clock (with_lock r (record { timing_error = e; misses = 0 })) (set_slot r.mode z c.from_int-2.result.0)) Dl) (c.emptied-anew.ensures next (heard a inputs))
+    ∙ search_found (receiver a next inputs) c.slot_window-w.result (c.slot_window-w.ensures inputs) c.find_sync-found.result (searched a) at (mode_of c.args.self.mode) z e _ _
+    c.from_int.ensures c.from_int-2.ensures c.if-found-gt-MAX_ERRS.false (mode_search c.args.self.mode c.requires.1) c.found_time-reference.ensures c.averaged.ensures

@@ -1,11 +1,11 @@
 -- The difference is so small that it is read back as it is.
 use Rattle.std.proofs.Common.{ap, ◌∙◌, ℤ}
-use Rattle.slot_receiver.specs.Receiver.{tdiff, far, skipIf, skipped}
-use Rattle.slot_receiver.specs.View.{receiverFrom}
+use Rattle.slot_receiver.specs.Receiver.{tdiff, far, skip_if, skipped}
+use Rattle.slot_receiver.specs.View.{receiver_from}
 use Rattle.slot_receiver.proofs.Signed.{read}
 use Rattle.slot_receiver.proofs.SlotReceiver.skipped.Goals as goal
 
 pub returns : goal.returns
-unfolding skipped tdiff receiverFrom
+unfolding skipped tdiff receiver_from
 returns c = λ next s.
-    c.skip_slots.ensures next s ∙ ap (λ (z : ℤ). skipIf (far z) z (receiverFrom c.args.self next s)) (read _ c.tdiff-t.type_inv ∙ c.tdiff-t.ensures)
+    c.skip_slots.ensures next s ∙ ap (λ (z : ℤ). skip_if (far z) z (receiver_from c.args.self next s)) (read _ c.tdiff-t.type_inv ∙ c.tdiff-t.ensures)

@@ -1,19 +1,19 @@
 -- 3 is `Ul`, and every other number another mode.
 use Rattle.std.proofs.Common.{◌≡◌, ℕ, refl, Bool, true, false, cond, eqb, ne_eqb, pos}
 use Rattle.slot_receiver.specs.declared.Mode.TheVariants.{Idle, DlUnsynchronized, Dl}
-use Rattle.slot_receiver.specs.Receiver.{slotReadyFromBegin}
+use Rattle.slot_receiver.specs.Receiver.{slot_ready_from_begin}
 use Rattle.slot_receiver.specs.View.{mode_of}
 use Rattle.slot_receiver.proofs.clock.slot_ready_from_begin.Goals as goal
 
-ul : (m : ℕ) → m ≡ 3 → pos 1020 ≡ slotReadyFromBegin (mode_of m)
-unfolding mode_of slotReadyFromBegin
+ul : (m : ℕ) → m ≡ 3 → pos 1020 ≡ slot_ready_from_begin (mode_of m)
+unfolding mode_of slot_ready_from_begin
 ul m e = rw e
 
-other : (m : ℕ) → (m ≡ 3 → ⊥) → pos 1018 ≡ slotReadyFromBegin (mode_of m)
-unfolding mode_of slotReadyFromBegin
+other : (m : ℕ) → (m ≡ 3 → ⊥) → pos 1018 ≡ slot_ready_from_begin (mode_of m)
+unfolding mode_of slot_ready_from_begin
 other m e = rw (ne_eqb m 3 e) (go (eqb m 1) (eqb m 2))
   where
-    go : (a b : Bool) → pos 1018 ≡ slotReadyFromBegin (cond a DlUnsynchronized (cond b Dl Idle))
+    go : (a b : Bool) → pos 1018 ≡ slot_ready_from_begin (cond a DlUnsynchronized (cond b Dl Idle))
     go true b = refl
     go false true = refl
     go false false = refl

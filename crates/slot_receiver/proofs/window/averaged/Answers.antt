@@ -2,9 +2,9 @@
 use Rattle.std.proofs.Common.{refl}
 use lib.Ieee.{of_bits}
 use Rattle.timing.specs.Floats.{tenth}
-use Rattle.timing.specs.Tracking.{averagedOf}
+use Rattle.timing.specs.Tracking.{averaged_of}
 use Rattle.slot_receiver.proofs.window.averaged.Goals as goal
 
 pub returns : goal.returns
-unfolding averagedOf tenth of_bits
+unfolding averaged_of tenth of_bits
 returns c = refl

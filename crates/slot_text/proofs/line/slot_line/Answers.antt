@@ -3,13 +3,13 @@ use Rattle.std.proofs.Common.{◌≡◌, [], ◌++◌, ap, ◌∙◌, rules, w64
 use Rattle.std.specs.Int.Signed.{mag}
 use Rattle.text.specs.Text.{text_of, cut, ascii}
 use Rattle.text.proofs.Cutting.{onto}
-use Rattle.slot_text.proofs.Pieces.{whole-line}
+use Rattle.slot_text.proofs.Pieces.{whole_line}
 use Rattle.slot_text.specs.Fields.{opening}
-use Rattle.slot_text.specs.Lines.{slotLine, slotRead}
+use Rattle.slot_text.specs.Lines.{slot_line, slot_read}
 use Rattle.slot_text.proofs.line.slot_line.Goals as goal
 
 pub returns : goal.returns
-unfolding slotLine slotRead ascii
+unfolding slot_line slot_read ascii
 returns c =
     let f = c.args.form in
     let fits : FitsSigned w64 c.args.slot.closing_counter.0 = search rules in
@@ -18,4 +18,4 @@ returns c =
     let numbered = onto [] _ _ opened c.with_number-numbered.ensures in
     let timed = onto [] _ _ numbered (rw counter at c.with_next_number-timed.ensures) in
     let linked = onto [] _ _ timed c.with_link-linked.ensures in
-    onto [] _ _ (onto [] _ _ (onto [] _ _ linked c.with_burst-full.ensures) c.with_halves-whole.ensures) c.by_form-2.ensures ∙ ap cut (whole-line f _ _ _ _ _)
+    onto [] _ _ (onto [] _ _ (onto [] _ _ linked c.with_burst-full.ensures) c.with_halves-whole.ensures) c.by_form-2.ensures ∙ ap cut (whole_line f _ _ _ _ _)

@@ -1,14 +1,14 @@
 -- Each turn makes a character more, and those that are cut off need not be there.
 use Rattle.std.proofs.Common.{◌≡◌, List, ℕ, ◌++◌, map, ap, ◌∙◌, arith, rules}
 use lib.ListN.{length-map}
-use Rattle.text.specs.Text.{text_of, cut, characterOf}
-use Rattle.text.proofs.Pieces.{character-turn, cut-least}
+use Rattle.text.specs.Text.{text_of, cut, character_of}
+use Rattle.text.proofs.Pieces.{character_turn, cut_least}
 use Rattle.text.proofs.Text.bits.Goals as goal
 
 pub loop-i-preserved : goal.loop-i-preserved
 loop-i-preserved c =
     let l = c.loop-i in
-    (search rules, character-turn c.args.bits.now l.characters l.i c.character_of.result (omega arith) (omega arith) c.character_of.ensures l.invariant.1)
+    (search rules, character_turn c.args.bits.now l.characters l.i c.character_of.result (omega arith) (omega arith) c.character_of.ensures l.invariant.1)
 
 pub returns-clause-result_value : goal.returns-clause-result_value
 returns-clause-result_value c =
@@ -16,4 +16,4 @@ returns-clause-result_value c =
     let count = c.least-count in
     let e : l.i ≡ count.result = omega arith in
     let m = rw e at l.invariant.1 in
-    c.append.ensures.result_value ∙ ap (λ (s : List ℕ). cut (text_of c.args.self ++ s)) m ∙ cut-least (text_of c.args.self) (map characterOf c.args.bits.now) count.result (rw (length-map c.args.bits.now characterOf) count.ensures)
+    c.append.ensures.result_value ∙ ap (λ (s : List ℕ). cut (text_of c.args.self ++ s)) m ∙ cut_least (text_of c.args.self) (map character_of c.args.bits.now) count.result (rw (length-map c.args.bits.now character_of) count.ensures)

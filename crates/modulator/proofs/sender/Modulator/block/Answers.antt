@@ -6,39 +6,39 @@ use lib.Signed.{mag}
 use mir.Syntax.{w64}
 use mir.Val.{SFits, to_z, of_z}
 use mir.ValLaws.{to_z-of_z}
-use Rattle.dsp_types.specs.Refusals.{lastCounter, counters}
-use Rattle.mapper.specs.Due.{start_of, inputRefusal, dueOf, dueRefusal}
-use Rattle.modulator.specs.Sender.{senderOf}
-use Rattle.modulator.specs.Blocks.{dueAfter, blockCall, placeDue, fedBlock, left_of}
-use Rattle.mapper.proofs.Places.{accepted-count}
-use Rattle.modulator.proofs.Blocks.{none-sent, no-refusal, some-room, input-accepted, room-called, some_left, fed-count, filled, ended, count-within}
+use Rattle.dsp_types.specs.Refusals.{last_counter, counters}
+use Rattle.mapper.specs.Due.{start_of, input_refusal, due_of, due_refusal}
+use Rattle.modulator.specs.Sender.{sender_of}
+use Rattle.modulator.specs.Blocks.{due_after, block_call, place_due, fed_block, left_of}
+use Rattle.mapper.proofs.Places.{accepted_count}
+use Rattle.modulator.proofs.Blocks.{none_sent, no_refusal, some_room, input_accepted, room_called, some_left, fed_count, filled, ended, count_within}
 use Rattle.modulator.proofs.sender.Modulator.block.Goals as goal
 
 -- what is known of a first sample that is sent, at the counter m
 record Sends (first : ℤ) (m slot : ℕ) (b : Bool) (bits : List ℕ) (room : ℕ) : Type 0 where
   is : first ≡ pos m
-  small : m ≤ lastCounter
-  accepted : inputRefusal (pos m) slot b bits ≡ 0
+  small : m ≤ last_counter
+  accepted : input_refusal (pos m) slot b bits ≡ 0
   roomy : 0 < room
   left : 0 < left_of m (start_of slot)
 
 sends : (first : ℤ) (m slot : ℕ) (b : Bool) (bits : List ℕ) (room r : ℕ) → SFits w64 first → m ≡ mag (to_z w64 (of_z w64 first))
-    → r ≡ dueRefusal (dueOf first slot b bits) → (not (eqb r 0) || eqb room 0) ≡ false → Sends first m slot b bits room
-unfolding dueOf
+    → r ≡ due_refusal (due_of first slot b bits) → (not (eqb r 0) || eqb room 0) ≡ false → Sends first m slot b bits room
+unfolding due_of
 sends first m slot b bits room r fits e f h =
     let size : m ≡ mag first = rw (to_z-of_z w64 first fits) at e in
-    let unrefused : dueRefusal (dueOf first slot b bits) ≡ 0 = sym f ∙ no-refusal r room h in
-    let none : inputRefusal first slot b bits ≡ 0 = input-accepted _ _ unrefused in
-    let count = accepted-count first slot b bits none in
+    let unrefused : due_refusal (due_of first slot b bits) ≡ 0 = sym f ∙ no_refusal r room h in
+    let none : input_refusal first slot b bits ≡ 0 = input_accepted _ _ unrefused in
+    let count = accepted_count first slot b bits none in
     let is : first ≡ pos m = count.0 ∙ ap pos (sym size) in
-    let small : m ≤ lastCounter = rw size count.1 in
-    let accepted : inputRefusal (pos m) slot b bits ≡ 0 = ap (λ (z : ℤ). inputRefusal z slot b bits) (sym is) ∙ none in
+    let small : m ≤ last_counter = rw size count.1 in
+    let accepted : input_refusal (pos m) slot b bits ≡ 0 = ap (λ (z : ℤ). input_refusal z slot b bits) (sym is) ∙ none in
     record {
       is = is;
       small = small;
       accepted = accepted;
-      roomy = some-room r room h;
-      left = some_left m slot b bits accepted small (ap (λ (z : ℤ). dueRefusal (dueOf z slot b bits)) (sym is) ∙ unrefused);
+      roomy = some_room r room h;
+      left = some_left m slot b bits accepted small (ap (λ (z : ℤ). due_refusal (due_of z slot b bits)) (sym is) ∙ unrefused);
     }
 
 -- what is left, by the slot's start
@@ -46,13 +46,13 @@ module _ (m start k n : ℕ) (e : n ≡ left_of m start) (f : start ≡ k) where
   left_is : n ≡ left_of m k
   left_is = e ∙ ap (left_of m) f
 
-  within : m ≤ lastCounter → m + n ≤ counters
-  within h = omega (arith, count-within m start h, e)
+  within : m ≤ last_counter → m + n ≤ counters
+  within h = omega (arith, count_within m start h, e)
 
 pub returns-then-refusal-room-clause-block : goal.returns-then-refusal-room-clause-block
 returns-then-refusal-room-clause-block c =
     let a = c.args in
-    none-sent a.sample_counter.0 a.slot.0 a.has_bits a.bits.now c.refusal_now-refusal.result _ (senderOf a.self a.mapper) a.out.now c.refusal_now-refusal.ensures
+    none_sent a.sample_counter.0 a.slot.0 a.has_bits a.bits.now c.refusal_now-refusal.result _ (sender_of a.self a.mapper) a.out.now c.refusal_now-refusal.ensures
     c.if-refusal-room.true
 
 pub left-left-requires : goal.left-left-requires
@@ -107,14 +107,14 @@ returns-then-room-left c =
     let left-is : c.left-left.result ≡ left_of m (start_of a.slot.0) =
     left_is m c.start_of-start.result (start_of a.slot.0) c.left-left.result c.left-left.ensures c.start_of-start.ensures.0 in
     let n = length a.out.now / 2 in
-    let s = senderOf a.self a.mapper in
-    let due = placeDue m (start_of a.slot.0) a.has_bits a.bits.now in
+    let s = sender_of a.self a.mapper in
+    let due = place_due m (start_of a.slot.0) a.has_bits a.bits.now in
     let w = rw c.start_of-start.ensures.0 at c.send.ensures in
-    let e : blockCall (dueAfter a.sample_counter.0 a.slot.0 a.has_bits a.bits.now) n s ≡ fedBlock due n 0 s =
-    ap (λ (z : ℤ). blockCall (dueAfter z a.slot.0 a.has_bits a.bits.now) n s) f.is
-    ∙ room-called _ n s f.roomy
+    let e : block_call (due_after a.sample_counter.0 a.slot.0 a.has_bits a.bits.now) n s ≡ fed_block due n 0 s =
+    ap (λ (z : ℤ). block_call (due_after z a.slot.0 a.has_bits a.bits.now) n s) f.is
+    ∙ room_called _ n s f.roomy
     ∙ filled m a.slot.0 a.has_bits a.bits.now f.accepted n s (omega (arith, left-is, c.if-room-left.true)) in
-    record { block = rw e w; kept = λ z. absurd (omega (arith, z, f.roomy, fed-count due n 0 _ _ s _ _ _ w)) }
+    record { block = rw e w; kept = λ z. absurd (omega (arith, z, f.roomy, fed_count due n 0 _ _ s _ _ _ w)) }
 
 pub returns : goal.returns
 returns c =
@@ -127,15 +127,15 @@ returns c =
     let left-is : c.left-left.result ≡ left_of m (start_of a.slot.0) =
     left_is m c.start_of-start.result (start_of a.slot.0) c.left-left.result c.left-left.ensures c.start_of-start.ensures.0 in
     let n = length a.out.now / 2 in
-    let s = senderOf a.self a.mapper in
+    let s = sender_of a.self a.mapper in
     let r = c.end_refusal-end in
     let k = c.left-left.result in
-    let due = placeDue m (start_of a.slot.0) a.has_bits a.bits.now in
+    let due = place_due m (start_of a.slot.0) a.has_bits a.bits.now in
     let w = rw c.start_of-start.ensures.0 at c.send-2.ensures in
-    let e : blockCall (dueAfter a.sample_counter.0 a.slot.0 a.has_bits a.bits.now) n s ≡ fedBlock due k r.result s =
-    ap (λ (z : ℤ). blockCall (dueAfter z a.slot.0 a.has_bits a.bits.now) n s) f.is
-    ∙ room-called _ n s f.roomy
-    ∙ ended m a.slot.0 a.has_bits a.bits.now f.accepted n r.result s (omega (arith, left-is, c.if-room-left.false)) (count-within m (start_of a.slot.0) f.small)
+    let e : block_call (due_after a.sample_counter.0 a.slot.0 a.has_bits a.bits.now) n s ≡ fed_block due k r.result s =
+    ap (λ (z : ℤ). block_call (due_after z a.slot.0 a.has_bits a.bits.now) n s) f.is
+    ∙ room_called _ n s f.roomy
+    ∙ ended m a.slot.0 a.has_bits a.bits.now f.accepted n r.result s (omega (arith, left-is, c.if-room-left.false)) (count_within m (start_of a.slot.0) f.small)
     (rw left-is at r.ensures)
-    ∙ ap (λ (j : ℕ). fedBlock due j r.result s) (sym left-is) in
-    record { block = rw e w; kept = λ z. absurd (omega (arith, z, left-is, f.left, fed-count due k r.result _ _ s _ _ _ w)) }
+    ∙ ap (λ (j : ℕ). fed_block due j r.result s) (sym left-is) in
+    record { block = rw e w; kept = λ z. absurd (omega (arith, z, left-is, f.left, fed_count due k r.result _ _ s _ _ _ w)) }

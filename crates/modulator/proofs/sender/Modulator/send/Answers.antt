@@ -1,8 +1,8 @@
 -- A piece behind those that were sent makes one block with them.
 use Rattle.std.proofs.Common.{◌+◌, arith}
-use Rattle.modulator.specs.Sender.{senderOf}
-use Rattle.modulator.specs.Blocks.{placeDue}
-use Rattle.modulator.proofs.Blocks.{wrote-more, wrote_none, due-later}
+use Rattle.modulator.specs.Sender.{sender_of}
+use Rattle.modulator.specs.Blocks.{place_due}
+use Rattle.modulator.proofs.Blocks.{wrote_more, wrote_none, due_later}
 use Rattle.modulator.proofs.sender.Modulator.send.Goals as goal
 
 pub loop-done-init : goal.loop-done-init
@@ -16,7 +16,7 @@ loop-done-preserved c =
     record {
       in_range = omega (arith, c.least-n.ensures);
       wrote =
-          wrote-more (placeDue a.counter a.start a.has_bits a.bits.now) (placeDue (a.counter + l.done) a.start a.has_bits a.bits.now) l.done c.least-n.result
-          (due-later a.counter a.start a.has_bits a.bits.now l.done) (senderOf a.self a.mapper) a.refusal (senderOf l.modulator l.phase)
-          (senderOf p.result.modulator p.result.mapper) a.out.now l.out p.new.out l.invariant.wrote p.ensures;
+          wrote_more (place_due a.counter a.start a.has_bits a.bits.now) (place_due (a.counter + l.done) a.start a.has_bits a.bits.now) l.done c.least-n.result
+          (due_later a.counter a.start a.has_bits a.bits.now l.done) (sender_of a.self a.mapper) a.refusal (sender_of l.modulator l.phase)
+          (sender_of p.result.modulator p.result.mapper) a.out.now l.out p.new.out l.invariant.wrote p.ensures;
     }
