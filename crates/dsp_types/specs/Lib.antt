@@ -1,4 +1,5 @@
 pub mod Refusals
+pub mod Answers
 pub mod Times
 pub mod Samples
 pub mod Phases

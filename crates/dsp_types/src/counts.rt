@@ -7,68 +7,48 @@ ghost use Rattle.dsp_types.specs.Times.{fitted};
 
 use crate::{LAST_COUNTER, SampleCount};
 
-const MOST: i64 = 9_223_372_036_854_775_807;
-
-const LEAST: i64 = -1 - MOST;
-
-fn sum(a: i64, b: i64) -> i64
-    ensures { result ≡ fitted (a +ℤ b) }
-{
-    if b < 0 {
-        if a < LEAST - b { LEAST } else { a + b }
-    } else {
-        if MOST - b < a { MOST } else { a + b }
-    }
-}
-
-fn difference(a: i64, b: i64) -> i64
-    ensures { result ≡ fitted (a -ℤ b) }
-{
-    if b < 0 {
-        if MOST + b < a { MOST } else { a - b }
-    } else {
-        if a < LEAST + b { LEAST } else { a - b }
-    }
-}
-
 impl SampleCount {
     // n samples later.
+    #[tactic(auto, unfolding(crate::specs::Times::fitted))]
     pub fn plus(self, n: i64) -> SampleCount
         ensures { result.0 ≡ fitted (self.0 +ℤ n) }
     {
-        SampleCount(sum(self.0, n))
+        SampleCount(self.0.saturating_add(n))
     }
 
     // n samples earlier.
+    #[tactic(auto, unfolding(crate::specs::Times::fitted))]
     pub fn minus(self, n: i64) -> SampleCount
         ensures { result.0 ≡ fitted (self.0 -ℤ n) }
     {
-        SampleCount(difference(self.0, n))
+        SampleCount(self.0.saturating_sub(n))
     }
 
     // The samples from an earlier count to this one.
+    #[tactic(auto, unfolding(crate::specs::Times::fitted))]
     pub fn since(self, earlier: SampleCount) -> i64
         ensures { result ≡ fitted (self.0 -ℤ earlier.0) }
     {
-        difference(self.0, earlier.0)
+        self.0.saturating_sub(earlier.0)
     }
 
     pub fn is_before(self, other: SampleCount) -> bool
         ensures { result ≡ lt_z self.0 other.0 }
     {
-        self.0 < other.0
+        self < other
     }
 
     pub fn is_same(self, other: SampleCount) -> bool
         ensures { result ≡ eq_z self.0 other.0 }
     {
-        self.0 == other.0
+        self == other
     }
 
     // Whether it is no sample's counter: refusal 2.
+    #[tactic(auto, unfolding(crate::specs::Refusals::out_of_count))]
     pub fn is_out_of_count(self) -> bool
         ensures { result ≡ out_of_count self.0 }
     {
-        self.is_before(SampleCount(0)) | SampleCount(LAST_COUNTER).is_before(self)
+        self < SampleCount(0) || SampleCount(LAST_COUNTER) < self
     }
 }

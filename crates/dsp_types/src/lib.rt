@@ -11,7 +11,8 @@ ghost use Rattle.dsp_types.specs.Refusals.{not_bits};
 
 pub use refusals::{
     ACCEPTED, BAD_BIT, BAD_COUNTER, BAD_KIND, BAD_LENGTH, BAD_SAMPLE, BAD_SLOT, BAD_TRAINING,
-    COUNTERS, LAST_COUNTER, LAST_SLOT, NEED_MORE_DATA, NO_SLOT, NOT_FOLLOWING, PAST_COUNTER, SLOTS,
+    COUNTERS, LAST_COUNTER, LAST_SLOT, NEED_MORE_DATA, NO_SLOT, NOT_FOLLOWING, PAST_COUNTER,
+    Refusal, SLOTS, answer_number,
 };
 
 // Made by the radio and by the filter, read by filter, timing and decisions.
@@ -23,13 +24,13 @@ pub struct ComplexSample {
 
 // A number of samples, or the counter of one: 72,000 a second.
 #[repr(C)]
-#[derive(Clone, Copy)]
+#[derive(Clone, Copy, Debug, PartialEq, Eq, PartialOrd, Ord)]
 pub struct SampleCount(pub i64);
 
 // A slot number: 4 slots, 18 frames, 60 multiframes and 65,536 hyperframes, so 0 to 283,115,519. Any stored
 // number counts modulo 283,115,520.
 #[repr(C)]
-#[derive(Clone, Copy)]
+#[derive(Clone, Copy, Debug, Default, PartialEq, Eq)]
 pub struct TdmaTime(pub u32);
 
 // n where it is 0 or more, else −1 − n: a sign and this number give n back, and it always fits.
@@ -40,20 +41,14 @@ pub fn unsigned(n: i64) -> u64
 }
 
 // The whole number n modulo the number of slots.
+#[tactic(auto, unfolding(crate::specs::Times::slot_of))]
 fn wrapped(n: i64) -> u32
     ensures { result ≡ slot_of n }
 {
-    let rest = (unsigned(n) % SLOTS as u64) as u32;
-    if n < 0 { LAST_SLOT - rest } else { rest }
+    n.rem_euclid(i64::from(SLOTS)) as u32
 }
 
 impl TdmaTime {
-    pub fn default() -> TdmaTime
-        ensures { result.0 ≡ 0 }
-    {
-        TdmaTime(0)
-    }
-
     pub fn from_int(n: i32) -> TdmaTime
         ensures { result.0 ≡ slot_of n }
     {
@@ -74,12 +69,11 @@ impl TdmaTime {
 }
 
 // n over d, rounded down. A divisor of 0 counts as 1.
+#[tactic(auto, unfolding(crate::specs::Times::div_euclid, crate::specs::Times::divisor))]
 pub fn div_euclid(n: i64, d: u32) -> i64
     ensures { result ≡ div_euclid n d }
 {
-    let by = if d == 0 { 1 } else { d as u64 };
-    let quotient = (unsigned(n) / by) as i64;
-    if n < 0 { -1 - quotient } else { quotient }
+    n.div_euclid(i64::from(d.max(1)))
 }
 
 // The smaller of two lengths.
@@ -101,8 +95,8 @@ pub fn not_bits(bytes: &[u8]) -> bool
     ensures { result ≡ not_bits bytes.now }
 {
     let mut found = false;
-    for i in 0..bytes.len() {
-        found = found | (1 < bytes[i]);
+    for byte in bytes {
+        found |= 1 < *byte;
     }
     found
 }

@@ -1,5 +1,63 @@
-// The numbers of refusals (01, "Refusals"), of which the smallest that holds is given and 0 stands for none, and the limits that
-// they judge by.
+// Why a call is refused (01, "Refusals"), each under its number, of which the smallest that holds is given; and the limits that they
+// judge by.
+ghost use Rattle.std.specs.Prelude.{◌≡◌};
+ghost use Rattle.dsp_types.specs.Answers.{number_of, answer_number};
+
+use std::error::Error;
+use std::fmt;
+
+#[derive(Clone, Copy, Debug, PartialEq, Eq)]
+pub enum Refusal {
+    // A sample part is NaN, infinite, or beyond 1,024 either side of zero.
+    BadSample = 1,
+    // A sample counter is below 0 or above the last.
+    BadCounter = 2,
+    // A slice has the wrong length.
+    BadLength = 3,
+    // A bit byte is neither 0 nor 1.
+    BadBit = 4,
+    // A normal burst is wanted with a training sequence other than 1 or 2.
+    BadTraining = 5,
+    // A slot number to send is above the last.
+    BadSlot = 6,
+    // A slot kind given by the logger is above 2.
+    BadKind = 7,
+    // The receiver's counter is below the one after its last accepted sample.
+    PastCounter = 10,
+    // No slot waits to be taken.
+    NoSlot = 11,
+    // The sender needs the next slot.
+    NeedMoreData = 12,
+    // The receiver told to follow finds its own slot timing.
+    NotFollowing = 13,
+}
+
+impl Refusal {
+    pub fn number(self) -> u32
+        ensures { result ≡ number_of self }
+    {
+        self as u32
+    }
+}
+
+impl fmt::Display for Refusal {
+    fn fmt<W: fmt::Write>(&self, f: &mut fmt::Formatter<W>) -> fmt::Result {
+        write!(f, "{}", self.number())
+    }
+}
+
+impl Error for Refusal {}
+
+// 0 for a call that was accepted, else the refusal's number: what C is told.
+pub fn answer_number<T>(answer: &Result<T, Refusal>) -> u32
+    ensures { result ≡ answer_number answer.now }
+{
+    match answer {
+        Ok(_) => 0,
+        Err(refusal) => refusal.number(),
+    }
+}
+
 pub const ACCEPTED: u32 = 0;
 
 pub const BAD_SAMPLE: u32 = 1;

@@ -2,8 +2,8 @@
 use Rattle.dsp_types.proofs.Bits.{one_more, no_more}
 use Rattle.dsp_types.proofs.not_bits.Goals as goal
 
-pub loop-i-preserved : goal.loop-i-preserved
-loop-i-preserved c = one_more c.args.bytes.now c.loop-i.found c.loop-i.i c.loop-i-test.true c.loop-i.invariant
+pub loop-byte-preserved : goal.loop-byte-preserved
+loop-byte-preserved c = one_more c.args.bytes.now c.loop-byte.found c.loop-byte.byte-index c.loop-byte-test.true c.loop-byte.invariant
 
 pub returns : goal.returns
-returns c = no_more c.args.bytes.now c.loop-i.found c.loop-i.i c.loop-i-test.false c.loop-i.invariant
+returns c = no_more c.args.bytes.now c.loop-byte.found c.loop-byte.byte-index c.loop-byte-test.false c.loop-byte.invariant
