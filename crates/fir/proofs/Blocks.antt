@@ -6,11 +6,11 @@ use Prim.Native.Nat.{ℕ, zero, suc, ◌+◌, ◌-◌, ◌<◌, ◌≤◌, min}
 use native.Mathlib.Nat.{zero-min, min-zero, suc-min-suc}
 use native.Mathlib.Omega.{arith}
 use native.Mathlib.Numerals.{one-add}
-use lib.ListN.{length, take, drop, replicate, length-append, length-drop, get_or-append}
+use lib.ListN.{length, take, drop, length-append, length-drop, get_or-append}
 use lib.Seq.{drop-append-le, drop-drop, take_at, take_all, take-length, length-take-le, append_snoc}
 use lib.Ieee.{Float, nan}
 use Rattle.dsp_types.specs.declared.ComplexSample.{ComplexSample}
-use Rattle.dsp_types.specs.Samples.{zero_f, silence, ago}
+use Rattle.dsp_types.specs.Samples.{silence, ago}
 use Rattle.dsp_types.specs.Ring.{newest}
 use Rattle.dsp_types.proofs.RingLaws.{le_or_lt}
 use Rattle.fir.specs.Fir.{fir_of, filter_of, in_row, row_outs, filter_row, start_with, line_after, outs_of, samples_of, block_of, re_of, im_of, line_of}
@@ -34,13 +34,8 @@ module _ (line block z row₁ row₂ : List Float) (n : length line ≡ 32) (h�
       ∙ between (line ++ block) (drop (32 + length block) row₁) from (length block + 32) h (length-append line block ∙ omega arith)
 
   -- the line after the block
-  pub block_line : (next : List Float)
-      → next ≡ take (length block + 32 - length block) (drop (length block) row₂)
-      ++ drop (0 + length (take (length block + 32 - length block) (drop (length block) row₂))) (replicate 32 zero_f)
-      → next ≡ drop (length block) (line ++ block)
-  block_line next e =
-      let l : length (drop (length block) (line ++ block)) ≡ 32 = length-drop (length block) (line ++ block) ∙ ap (λ (k : ℕ). k - length block) (length-append line block) ∙ omega arith in
-      e ∙ rw (part (length block) (omega arith), l) (append-nil (drop (length block) (line ++ block)))
+  pub block_line : (next : List Float) → next ≡ take (length block + 32 - length block) (drop (length block) row₂) → next ≡ drop (length block) (line ++ block)
+  block_line next e = e ∙ part (length block) (omega arith)
 
   -- the outputs
   pub block_outs : (out out' : List Float) → length block ≤ length out

@@ -5,7 +5,7 @@ ghost use Rattle.std.specs.Prelude.{◌≡◌, [], ◌∷◌, ◌++◌, ◌+◌,
 ghost use Rattle.dsp_types.specs.Samples.{silence, ago};
 ghost use Rattle.fir.specs.Fir.{fir_of, filter_of, in_row, line_of, row_outs, filter_row, start_with, line_after, outs_of, block_of, re_of, im_of};
 
-use dsp_types::{ComplexSample, least};
+use dsp_types::ComplexSample;
 
 // Channel filter taps (modem_common.rs).
 const CHANNEL_FILTER_TAPS: [f32; 16] = [
@@ -35,12 +35,6 @@ pub struct FirComplexSym {
     pub im: [f32; 32],
 }
 
-#[derive(Clone, Copy)]
-pub struct Filtered {
-    pub out: ComplexSample,
-    pub line: FirComplexSym,
-}
-
 // The filter over the first 32 elements of a row, oldest first. With the lanes in an array and the taps in a
 // local the compiler works on four at once.
 fn filter_part(row: &[f32]) -> f32
@@ -58,25 +52,23 @@ fn filter_part(row: &[f32]) -> f32
     sum[0] + sum[1] + sum[2] + sum[3]
 }
 
-// How many outputs a row and a buffer of these lengths have room for.
-fn room(row: usize, out: usize) -> usize
-    ensures { result ≡ min (row - 31) out }
-{
-    if row < 31 {
-        return 0;
-    }
-    least(row - 31, out)
-}
-
 // One part of a block. The row holds 31 old samples and the block, oldest first; output n has row[n + 31] as
 // its newest sample. What the row is too short for is left as it was.
 fn filter_block(row: &[f32], out: &mut [f32])
     ensures { out.new ≡ filter_row row.now out.old }
 {
-    let count = room(row.len(), out.len());
+    let count = row.len().saturating_sub(31).min(out.len());
     for n in 0..count {
         out[n] = filter_part(&row[n..]);
     }
+}
+
+// One part of the line takes x as its newest sample.
+fn push(line: &mut [f32; 32], x: f32)
+    ensures { line.new ≡ drop 1 line.old ++ (x ∷ []) }
+{
+    line.copy_within(1.., 0);
+    line[31] = x;
 }
 
 // Writes src to dst from `to` on.
@@ -84,36 +76,21 @@ fn copy(src: &[f32], dst: &mut [f32], to: usize)
     requires { to + length src.now ≤ length dst.old }
     ensures { dst.new ≡ take to dst.old ++ src.now ++ drop (to + length src.now) dst.old }
 {
-    for i in 0..src.len() {
-        dst[to + i] = src[i];
-    }
+    dst[to..to + src.len()].copy_from_slice(src);
 }
 
-// One part of the line with x as its newest sample.
-fn shifted(line: &[f32], x: f32) -> [f32; 32]
-    requires { length line.now ≡ 32 }
-    ensures { result ≡ drop 1 line.now ++ (x ∷ []) }
-{
-    let mut next = [0.0f32; 32];
-    copy(&line[1..], &mut next, 0);
-    next[31] = x;
-    next
-}
-
-// One part of a block: writes its outputs, and returns that part of the line after it.
-fn block_part(line: &[f32], block: &[f32], out: &mut [f32]) -> [f32; 32]
-    requires { (length line.now ≡ 32) × ((length block.now ≤ 1024) × (length block.now ≤ length out.old)) }
-    ensures value { result ≡ drop (length block.now) (line.now ++ block.now) }
-    ensures out_after { out.new ≡ start_with (row_outs (length block.now) (drop 1 (line.now ++ block.now))) out.old }
+// One part of a block: writes its outputs, and the line takes the block.
+fn block_part(line: &mut [f32; 32], block: &[f32], out: &mut [f32])
+    requires { (length block.now ≤ 1024) × (length block.now ≤ length out.old) }
+    ensures line_after { line.new ≡ drop (length block.now) (line.old ++ block.now) }
+    ensures out_after { out.new ≡ start_with (row_outs (length block.now) (drop 1 (line.old ++ block.now))) out.old }
 {
     let n = block.len();
     let mut row = [0.0f32; 1056];
     copy(line, &mut row, 0);
     copy(block, &mut row, 32);
     filter_block(&row[1..n + 32], out);
-    let mut next = [0.0f32; 32];
-    copy(&row[n..n + 32], &mut next, 0);
-    next
+    line.copy_from_slice(&row[n..n + 32]);
 }
 
 impl FirComplexSym {
@@ -126,44 +103,30 @@ impl FirComplexSym {
         }
     }
 
-    pub fn sample(self, in_: ComplexSample) -> Filtered
-        ensures out { result.out ≡ filter_of (ago silence (in_ ∷ line_of self)) }
-        ensures line { line_of result.line ≡ take 32 (in_ ∷ line_of self) }
+    // Pushes a sample into the line, and gives what the filter makes of it.
+    pub fn sample(&mut self, in_: ComplexSample) -> ComplexSample
+        ensures out { result ≡ filter_of (ago silence (in_ ∷ line_of self.old)) }
+        ensures line { line_of self.new ≡ take 32 (in_ ∷ line_of self.old) }
     {
-        let re = shifted(&self.re, in_.re);
-        let im = shifted(&self.im, in_.im);
-        let out = ComplexSample {
-            re: filter_part(&re),
-            im: filter_part(&im),
-        };
-        Filtered {
-            out,
-            line: FirComplexSym { re, im },
+        push(&mut self.re, in_.re);
+        push(&mut self.im, in_.im);
+        ComplexSample {
+            re: filter_part(&self.re),
+            im: filter_part(&self.im),
         }
     }
 
     // A block of samples, oldest first, in one call: the same line and outputs as sample by sample. At most
     // 1,024 are taken, and no more than each of the four slices has room for.
-    pub fn block(
-        self,
-        re: &[f32],
-        im: &[f32],
-        out_re: &mut [f32],
-        out_im: &mut [f32],
-    ) -> FirComplexSym
-        ensures { let xs = block_of re.now im.now out_re.old out_im.old in
-            (line_of result ≡ line_after (line_of self) xs)
-            × ((out_re.new ≡ start_with (re_of (outs_of (line_of self) xs)) out_re.old)
-            × (out_im.new ≡ start_with (im_of (outs_of (line_of self) xs)) out_im.old)) }
+    pub fn block(&mut self, re: &[f32], im: &[f32], out_re: &mut [f32], out_im: &mut [f32])
+        ensures line { line_of self.new ≡ line_after (line_of self.old) (block_of re.now im.now out_re.old out_im.old) }
+        ensures outs_re { out_re.new ≡ start_with (re_of (outs_of (line_of self.old) (block_of re.now im.now out_re.old out_im.old))) out_re.old }
+        ensures outs_im { out_im.new ≡ start_with (im_of (outs_of (line_of self.old) (block_of re.now im.now out_re.old out_im.old))) out_im.old }
     {
-        let given = least(re.len(), im.len());
-        let room = least(out_re.len(), out_im.len());
-        let n = least(given, least(1024, room));
-        let next_re = block_part(&self.re, &re[..n], out_re);
-        let next_im = block_part(&self.im, &im[..n], out_im);
-        FirComplexSym {
-            re: next_re,
-            im: next_im,
-        }
+        let given = re.len().min(im.len());
+        let room = out_re.len().min(out_im.len());
+        let n = given.min(room.min(1024));
+        block_part(&mut self.re, &re[..n], out_re);
+        block_part(&mut self.im, &im[..n], out_im);
     }
 }

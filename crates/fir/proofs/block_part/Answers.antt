@@ -5,10 +5,10 @@ use Rattle.dsp_types.specs.Samples.{zero_f}
 use Rattle.fir.proofs.Blocks.{block_line, block_outs}
 use Rattle.fir.proofs.block_part.Goals as goal
 
-pub returns-clause-value : goal.returns-clause-value
-returns-clause-value c =
+pub returns-clause-line_after : goal.returns-clause-line_after
+returns-clause-line_after c =
     let z : List Float = replicate 1056 zero_f in
-    block_line c.args.line.now c.args.block.now z c.copy.new.dst c.copy-2.new.dst (search rules) c.copy.ensures c.copy-2.ensures c.copy-3.new.dst c.copy-3.ensures
+    block_line c.args.line.now c.args.block.now z c.copy.new.dst c.copy-2.new.dst (search rules) c.copy.ensures c.copy-2.ensures c.copy_from_slice.new.self c.copy_from_slice.ensures.after
 
 pub returns-clause-out_after : goal.returns-clause-out_after
 returns-clause-out_after c =

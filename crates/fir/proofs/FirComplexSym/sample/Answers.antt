@@ -7,16 +7,16 @@ use Rattle.fir.proofs.FirComplexSym.sample.Goals as goal
 pub returns-clause-out : goal.returns-clause-out
 unfolding line_of filter_of
 returns-clause-out c =
-    let line = c.args.self in
+    let line = c.args.self.now in
     let v : length line.re ≡ 32 = search rules in
     let w : length line.im ≡ 32 = search rules in
     (λ i. record { re = c.filter_part.ensures i; im = c.filter_part-2.ensures i })
-    ∙ rw (c.shifted-re.ensures, c.shifted-im.ensures) (rows_out line.re line.im c.args.in_ v w)
+    ∙ rw (c.push.ensures, c.push-2.ensures) (rows_out line.re line.im c.args.in_ v w)
 
 pub returns-clause-line : goal.returns-clause-line
 unfolding line_of
 returns-clause-line c =
-    let line = c.args.self in
+    let line = c.args.self.now in
     let v : length line.re ≡ 32 = search rules in
     let w : length line.im ≡ 32 = search rules in
-    rw (c.shifted-re.ensures, c.shifted-im.ensures) (rows_line line.re line.im c.args.in_ v w)
+    rw (c.push.ensures, c.push-2.ensures) (rows_line line.re line.im c.args.in_ v w)
