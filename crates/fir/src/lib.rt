@@ -27,7 +27,7 @@ const CHANNEL_FILTER_TAPS: [f32; 16] = [
     0.00220812,
 ];
 
-// The parts of the newest 32 samples, oldest first.
+// The parts of the newest 32 samples, oldest first. Two arrays, as C has them: the compiler works on several elements of one part at once.
 #[repr(C)]
 #[derive(Clone, Copy)]
 pub struct FirComplexSym {
@@ -36,7 +36,7 @@ pub struct FirComplexSym {
 }
 
 // The filter over the first 32 elements of a row, oldest first. With the lanes in an array and the taps in a
-// local the compiler works on four at once.
+// local the compiler works on four at once. The loops count, since tap k = v + 4 t is the filter's own index.
 fn filter_part(row: &[f32]) -> f32
     requires { 31 < length row.now }
     ensures { result ≡ fir_of (in_row row.now) }
@@ -53,7 +53,8 @@ fn filter_part(row: &[f32]) -> f32
 }
 
 // One part of a block. The row holds 31 old samples and the block, oldest first; output n has row[n + 31] as
-// its newest sample. What the row is too short for is left as it was.
+// its newest sample. What the row is too short for is left as it was. The loop counts: of elements that are written beside those
+// of another slice (`iter_mut().zip(..)`) a proof knows nothing.
 fn filter_block(row: &[f32], out: &mut [f32])
     ensures { out.new ≡ filter_row row.now out.old }
 {
