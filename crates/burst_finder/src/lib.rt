@@ -3,24 +3,24 @@
 
 ghost use Rattle.std.specs.Prelude.{◌≡◌, ◌+◌, ◌≤◌, ◌<◌, length};
 ghost use Rattle.burst_finder.specs.Search.{placings, find_sequence, below, find_sync};
-ghost use Rattle.burst_finder.specs.Slots.{most_errors, type_number, not_found, check_sequence, check_normal, check_slot, get_burst};
+ghost use Rattle.burst_finder.specs.Slots.{most_errors, type_number, not_found, check_sequence, check_normal, check_slot, get_burst, IsChecked};
 
 use train_consts::{SEQ_EXT, SEQ_NORM1, SEQ_NORM2, SEQ_SYNC};
 
 // The best placing of a sequence in bits, and how many bits differ there.
-#[derive(Clone, Copy)]
+#[derive(Clone, Copy, Debug, PartialEq, Eq)]
 pub struct Found {
     pub pos: usize,
     pub dist: usize,
 }
 
-#[derive(Clone, Copy)]
+#[derive(Clone, Copy, Debug, PartialEq, Eq)]
 pub enum TrainingSequence {
-    NotFound,
-    NormalTrainSeq1,
-    NormalTrainSeq2,
-    ExtendedTrainSeq,
-    SyncTrainSeq,
+    NotFound = 0,
+    NormalTrainSeq1 = 1,
+    NormalTrainSeq2 = 2,
+    ExtendedTrainSeq = 3,
+    SyncTrainSeq = 4,
 }
 
 impl TrainingSequence {
@@ -28,17 +28,11 @@ impl TrainingSequence {
     pub fn number(self) -> u8
         ensures { result ≡ type_number self }
     {
-        match self {
-            TrainingSequence::NotFound => 0,
-            TrainingSequence::NormalTrainSeq1 => 1,
-            TrainingSequence::NormalTrainSeq2 => 2,
-            TrainingSequence::ExtendedTrainSeq => 3,
-            TrainingSequence::SyncTrainSeq => 4,
-        }
+        self as u8
     }
 }
 
-#[derive(Clone, Copy)]
+#[derive(Clone, Copy, Debug, PartialEq, Eq)]
 pub enum SlotType {
     // Downlink slot.
     Dl,
@@ -49,7 +43,7 @@ pub enum SlotType {
 }
 
 // The burst found in a slot's bits.
-#[derive(Clone, Copy)]
+#[derive(Clone, Copy, Debug, PartialEq, Eq)]
 pub struct Finding {
     pub train_type: TrainingSequence,
     // How many bits of its training sequence are wrong; 100 where there is no burst.
@@ -68,10 +62,11 @@ pub const MAX_ERRS: usize = 1;
 const TOO_MANY: usize = MAX_ERRS + 1;
 
 // How many even placings a part of m bits has in n bits.
+#[tactic(auto, unfolding(crate::specs::Search::placings))]
 fn even_placings(n: usize, m: usize) -> usize
     ensures { result ≡ placings n m }
 {
-    if n < m { 0 } else { (n - m) / 2 + 1 }
+    n.checked_sub(m).map_or(0, |spare| spare / 2 + 1)
 }
 
 // The even placing with the fewest differences, the earliest on a tie, where it has fewer than the limit; else place 0 and the limit. A low limit makes
@@ -86,11 +81,11 @@ fn find_sequence(bits: &[u8], sequence: &[u8], limit: usize) -> Found
     'placing: for half in 0..count {
         let position = 2 * half;
         let mut dist: usize = 0;
-        for i in 0..sequence.len() {
+        for (i, wanted) in sequence.iter().enumerate() {
             if dist == min_dist {
                 continue 'placing;
             }
-            if bits[position + i] != sequence[i] {
+            if bits[position + i] != *wanted {
                 dist += 1;
             }
         }
@@ -110,16 +105,11 @@ fn find_sequence(bits: &[u8], sequence: &[u8], limit: usize) -> Found
 pub fn find_sync(bits: &[u8]) -> Found
     ensures { result ≡ below (most_errors + 1) (find_sync bits.now) }
 {
-    if bits.len() < 216 {
-        return Found {
-            pos: 0,
-            dist: TOO_MANY,
-        };
-    }
-    find_sequence(&bits[216..], &SEQ_SYNC, TOO_MANY)
+    find_sequence(&bits[bits.len().min(216)..], &SEQ_SYNC, TOO_MANY)
 }
 
 impl Finding {
+    #[tactic(auto, unfolding(crate::specs::Slots::not_found))]
     fn not_found() -> Finding
         ensures { result ≡ not_found }
     {
@@ -139,52 +129,46 @@ fn check_sequence(
     burst_len: usize,
     train_type: TrainingSequence,
     train_bits: &[u8],
-    max_errs: usize,
-) -> Finding
-    requires { (train_pos + length train_bits.now ≤ burst_len) × (max_errs < length train_bits.now) }
-    ensures { result ≡ check_sequence bits.now train_pos burst_len train_type train_bits.now max_errs }
+) -> Option<Finding>
+    requires { (train_pos + length train_bits.now ≤ burst_len) × (most_errors < length train_bits.now) }
+    ensures { IsChecked result (check_sequence bits.now train_pos burst_len train_type train_bits.now most_errors) }
 {
-    if bits.len() < burst_len {
-        return Finding::not_found();
-    }
-    let end = bits.len() - burst_len + train_pos + train_bits.len();
-    let found = find_sequence(&bits[train_pos..end], train_bits, max_errs + 1);
-    if found.dist <= max_errs {
-        Finding {
+    let spare = bits.len().checked_sub(burst_len)?;
+    let end = spare + train_pos + train_bits.len();
+    let found = find_sequence(&bits[train_pos..end], train_bits, TOO_MANY);
+    if found.dist <= MAX_ERRS {
+        Some(Finding {
             train_type,
             train_errs: found.dist,
             burst_pos: found.pos,
             burst_len,
-        }
+        })
     } else {
-        Finding::not_found()
+        None
     }
 }
 
 // The same for normal training sequence 1 and, where that is not found, for 2.
-fn check_normal(bits: &[u8], train_pos: usize, burst_len: usize) -> Finding
+fn check_normal(bits: &[u8], train_pos: usize, burst_len: usize) -> Option<Finding>
     requires { train_pos + 22 ≤ burst_len }
-    ensures { result ≡ check_normal bits.now train_pos burst_len }
+    ensures { IsChecked result (check_normal bits.now train_pos burst_len) }
 {
-    let normal1 = check_sequence(
+    check_sequence(
         bits,
         train_pos,
         burst_len,
         TrainingSequence::NormalTrainSeq1,
         &SEQ_NORM1,
-        MAX_ERRS,
-    );
-    if normal1.train_errs < ERRS_NO_BURST {
-        return normal1;
-    }
-    check_sequence(
-        bits,
-        train_pos,
-        burst_len,
-        TrainingSequence::NormalTrainSeq2,
-        &SEQ_NORM2,
-        MAX_ERRS,
     )
+    .or_else(|| {
+        check_sequence(
+            bits,
+            train_pos,
+            burst_len,
+            TrainingSequence::NormalTrainSeq2,
+            &SEQ_NORM2,
+        )
+    })
 }
 
 // The first training sequence that is accepted in a slot's bits, in the order of its kind. Bits of any length are searched; the receiver's windows have
@@ -192,43 +176,28 @@ fn check_normal(bits: &[u8], train_pos: usize, burst_len: usize) -> Finding
 pub fn check_slot(slot_type: SlotType, bits: &[u8]) -> Finding
     ensures { result ≡ check_slot slot_type bits.now }
 {
-    match slot_type {
-        SlotType::Dl => {
-            let sync = check_sequence(
-                bits,
-                214,
-                510,
-                TrainingSequence::SyncTrainSeq,
-                &SEQ_SYNC,
-                MAX_ERRS,
-            );
-            if sync.train_errs < ERRS_NO_BURST {
-                return sync;
-            }
-            check_normal(bits, 244, 510)
-        }
-        SlotType::UlFull => check_normal(bits, 220, 462),
-        SlotType::UlSub => check_sequence(
+    let found = match slot_type {
+        SlotType::Dl => check_sequence(
             bits,
-            88,
-            206,
-            TrainingSequence::ExtendedTrainSeq,
-            &SEQ_EXT,
-            MAX_ERRS,
-        ),
-    }
+            214,
+            510,
+            TrainingSequence::SyncTrainSeq,
+            &SEQ_SYNC,
+        ).or_else(|| check_normal(bits, 244, 510)),
+        SlotType::UlFull => check_normal(bits, 220, 462),
+        SlotType::UlSub => {
+            check_sequence(bits, 88, 206, TrainingSequence::ExtendedTrainSeq, &SEQ_EXT)
+        }
+    };
+    found.unwrap_or_else(Finding::not_found)
 }
 
 // The burst's part of the slot's bits; empty where that does not lie within them.
+#[tactic(auto, unfolding(crate::specs::Slots::get_burst))]
 pub fn get_burst(bits: &[u8], pos: usize, len: usize) -> &[u8]
     ensures { result.now ≡ get_burst bits.now pos len }
 {
-    if bits.len() < pos {
-        return &bits[0..0];
-    }
-    if bits.len() - pos < len {
-        return &bits[0..0];
-    }
-    let end = pos + len;
-    &bits[pos..end]
+    pos.checked_add(len)
+        .and_then(|end| bits.get(pos..end))
+        .unwrap_or_default()
 }

@@ -2,13 +2,14 @@
 -- Those of rings are over any length: at 2,048 they are only applied. Assumes nothing.
 use mathlib.Core.Path.{◌≡◌, refl, sym, ap, ◌∙◌}
 use mathlib.Core.List.{List, [], ◌∷◌, ◌++◌, map}
-use Prim.Native.Nat.{ℕ, zero, suc, ◌+◌, ◌-◌, ◌%◌, ◌<◌}
+use Prim.Native.Nat.{ℕ, zero, suc, ◌+◌, ◌-◌, ◌%◌, ◌<◌, ◌≤◌}
 use native.Mathlib.Nat.{mod-lt, mod-eq_of_lt, mod-mod, mod-add-mod}
 use native.Mathlib.Omega.{arith}
 use native.Mathlib.Numerals.{add-one}
 use lib.Dec.{lit<}
 use lib.ListN.{length, get_or, set, take, get_or-map}
-use lib.Seq.{take-suc}
+use lib.Seq.{take-suc, paste}
+use Rattle.std.proofs.lemmas.List.Edits.{paste_none, paste_more, length-paste}
 use lib.Ieee.{Float, nan}
 use Rattle.dsp_types.specs.declared.ComplexSample.{ComplexSample}
 use Rattle.dsp_types.specs.Samples.{zero_f, silence, ago}
@@ -84,14 +85,27 @@ place_in_run m at n k =
     let e : at + (n + 1) ≡ at + 1 + n = omega arith in
     rw e (sym (mod-add-mod (at + 1) m n) ∙ mod-eq_of_lt k)
 
--- a turn of the loop of `store_run`
-pub run_step : (ring held from : List Float) (at n : ℕ) → length ring ≡ 2048 → n < length from → (at % 2048 + 1) % 2048 + n < 2048
+-- one element more of a run
+run_step : (ring held from : List Float) (at n : ℕ) → length ring ≡ 2048 → n < length from → (at % 2048 + 1) % 2048 + n < 2048
     → held_in ring ((at % 2048 + n) % 2048) ≡ held_after held (take n from)
     → held_in (set ring ((at % 2048 + 1) % 2048 + n) (get_or from n nan)) ((at % 2048 + (n + 1)) % 2048) ≡ held_after held (take (n + 1) from)
 run_step ring held from at n w h k e =
     rw (← place_in_run 2048 (at % 2048) n k)
     ((rw (place_after 2048 (at % 2048) n 1) at (held_write ring ((at % 2048 + n) % 2048) (get_or from n nan) w))
     ∙ rw (add-one n, take-suc from n nan h, e) (sym (after_snoc held (take n from) (get_or from n nan))))
+
+-- the first n elements of a run
+pub run_stored : (ring from : List Float) (at n : ℕ) → length ring ≡ 2048 → n ≤ length from → (at % 2048 + 1) % 2048 + n ≤ 2048
+    → held_in (paste ring ((at % 2048 + 1) % 2048) from n) ((at % 2048 + n) % 2048) ≡ held_after (held_in ring at) (take n from)
+unfolding held_after
+run_stored ring from at zero w h k =
+    let e : (at % 2048 + 0) % 2048 ≡ at % 2048 = omega arith in
+    rw (← paste_none ring ((at % 2048 + 1) % 2048) from, e) (held_mod ring at)
+run_stored ring from at (suc n) w h k =
+    let start : ℕ = (at % 2048 + 1) % 2048 in
+    let long : length (paste ring start from n) ≡ 2048 = length-paste ring start from n (omega arith) (omega arith) ∙ w in
+    rw (← add-one n, ← paste_more ring start from n nan (omega arith) h)
+    (run_step (paste ring start from n) (held_in ring at) from at n long h (omega arith) (run_stored ring from at n w (omega arith) (omega arith)))
 
 pub after_append : {A : Type 0} (held xs ys : List A) → held_after held (xs ++ ys) ≡ held_after (held_after held xs) ys
 unfolding held_after
@@ -127,3 +141,9 @@ samples_after re im re' im' at at' ys a b =
     same_parts (samples_in re' im' at') (held_after (samples_in re im at) ys)
     (re_held re' im' at' ∙ a ∙ rw (← re_held re im at) (sym (map_after (λ s. s.re) (samples_in re im at) ys)))
     (im_held re' im' at' ∙ b ∙ rw (← im_held re im at) (sym (map_after (λ s. s.im) (samples_in re im at) ys)))
+
+-- once nothing is left to store, all is
+pub none_left : {A : Type 0} (held after rest : List A) → length rest ≡ 0 → held_after held rest ≡ after → held ≡ after
+unfolding held_after
+none_left held after [] e h = h
+none_left held after (x ∷ rest) e h = absurd (omega arith)

@@ -5,8 +5,6 @@ ghost use Rattle.std.specs.Prelude.{◌≡◌, ◌+◌, ◌≤◌, ◌%◌, leng
 ghost use Rattle.dsp_types.specs.Samples.{zero_f, ago};
 ghost use Rattle.history.specs.History.{held_in, held_after};
 
-use dsp_types::least;
-
 // What is kept of the past: three rings. Where their newest element stands is kept beside them.
 #[repr(C)]
 #[derive(Clone, Copy)]
@@ -30,42 +28,30 @@ pub fn recall(ring: &[f32; 2048], at: usize, delay: usize) -> f32
     ring[(at % 2048 + 2048 - delay % 2048) % 2048]
 }
 
-// `store` of a run that fits before the ring's end: its places follow each other, so that the compiler moves
-// several elements at once.
-fn store_run(ring: &mut [f32], at: usize, from: &[f32]) -> usize
-    requires { (length ring.old ≡ 2048) × ((at % 2048 + 1) % 2048 + length from.now ≤ 2048) }
+// `store` of a run that fits before the ring's end: its places follow each other, so that it is copied at once.
+fn store_run(ring: &mut [f32; 2048], at: usize, from: &[f32]) -> usize
+    requires { (at % 2048 + 1) % 2048 + length from.now ≤ 2048 }
     ensures value { result ≡ (at % 2048 + length from.now) % 2048 }
     ensures result_after { held_in ring.new result ≡ held_after (held_in ring.old at) from.now }
 {
     let start = next(at);
-    for n in 0..from.len() {
-        ring[start + n] = from[n];
-    }
+    ring[start..start + from.len()].copy_from_slice(from);
     (at % 2048 + from.len()) % 2048
 }
 
-// `store`, in a slice, run by run.
-fn store_in(ring: &mut [f32], at: usize, from: &[f32]) -> usize
-    requires { length ring.old ≡ 2048 }
-    ensures value { result ≡ (at % 2048 + length from.now) % 2048 }
-    ensures result_after { held_in ring.new result ≡ held_after (held_in ring.old at) from.now }
-{
-    let mut newest = at % 2048;
-    let mut done: usize = 0;
-    while done < from.len() {
-        let run = least(2048 - next(newest), from.len() - done);
-        newest = store_run(ring, newest, &from[done..done + run]);
-        done = done + run;
-    }
-    newest
-}
-
-// Writes `from`, oldest first, into a ring whose newest stands at `at`, and returns where the newest then stands.
+// Writes `from`, oldest first, into a ring whose newest stands at `at`, and returns where the newest then stands. It is stored run by run.
 pub fn store(ring: &mut [f32; 2048], at: usize, from: &[f32]) -> usize
     ensures index { result ≡ (at % 2048 + length from.now) % 2048 }
     ensures held { held_in ring.new result ≡ held_after (held_in ring.old at) from.now }
 {
-    store_in(ring, at, from)
+    let mut newest = at % 2048;
+    let mut rest = from;
+    while !rest.is_empty() {
+        let (run, behind) = rest.split_at(rest.len().min(2048 - next(newest)));
+        newest = store_run(ring, newest, run);
+        rest = behind;
+    }
+    newest
 }
 
 impl History {

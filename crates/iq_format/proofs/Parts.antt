@@ -30,9 +30,9 @@ only_nan nan e = refl
 only_nan (inf s) e = absurd (subst T (sym e) tt)
 only_nan (fin s m e') e = absurd (subst T (sym e) tt)
 
-pub nan_pattern : (x : Float) → ne x x ≡ true → 0x7fc0_0000 ≡ to_bits binary32 x
+pub nan_pattern : (x : Float) → is_nan x ≡ true → 0x7fc0_0000 ≡ to_bits binary32 x
 unfolding to_bits
-nan_pattern x e = sym (ap (to_bits binary32) (differs_from_itself x (subst T (sym e) tt)))
+nan_pattern x e = ap (to_bits binary32) (only_nan x e)
 
 pub nan_float : (p : ℕ) → 0x7f80_0000 < p % 0x8000_0000 → nan ≡ of_bits binary32 p
 nan_float p h = only_nan (of_bits binary32 p) (sym (nan_bits_is binary32 p) ∙ nan_bits_above binary32 p ∙ lt-ltb 0x7f80_0000 (p % 0x8000_0000) h)

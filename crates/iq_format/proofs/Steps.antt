@@ -37,14 +37,6 @@ in_table test ps t k h = let e : 0 + k ≡ k = omega arith in rw e at (every_at 
 
 -- ---- a part and a step
 
-pub nan_loudness : (x : Float) → ne x x ≡ true → 0 ≡ loudness x
-unfolding loudness is_nan
-nan_loudness x e = sym (ap loudness (differs_from_itself x (subst T (sym e) tt)))
-
-pub number_loudness : (x : Float) → T (not (is_nan x)) → to_bits binary32 x % 0x8000_0000 ≡ loudness x
-unfolding loudness
-number_loudness x h = rw (is_false (is_nan x) h)
-
 less_down : (k u v : ℕ) → u ≤ v → T (less_than_db k v) → T (less_than_db k u)
 unfolding less_than_db
 less_down k u v h t =

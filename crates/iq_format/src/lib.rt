@@ -8,12 +8,11 @@ ghost use Rattle.std.specs.Float.{binary32};
 ghost use Rattle.std.specs.Float.Ieee.{of_bits, to_bits};
 ghost use Rattle.iq_format.specs.Parts.{word_of, width, signed16, part_of, parts_in, part_bytes};
 
-use dsp_types::least;
 pub use meter::level;
 
 // What a file of samples holds: f32 parts as GNU Radio and csdr write them (`.cf32`), signed 16-bit ones as SoapySDR
 // does (`.cs16`), or bytes as rtl_sdr does (`.cu8`).
-#[derive(Clone, Copy)]
+#[derive(Clone, Copy, Debug, PartialEq, Eq)]
 pub enum Format {
     Cf32,
     Cs16,
@@ -31,37 +30,34 @@ pub fn part_bytes(format: Format) -> usize
     }
 }
 
-fn wide(byte: u8) -> u32
-    ensures { result ≡ byte }
-{
-    byte as u32
-}
-
 // The f32 of a bit pattern. NaN's patterns all give the same NaN.
 pub fn float(pattern: u32) -> f32
     ensures { result ≡ of_bits binary32 pattern }
 {
     if 0x7f80_0000 < pattern % 0x8000_0000 {
-        0.0 / 0.0
+        f32::NAN
     } else {
         f32::from_bits(pattern)
     }
 }
 
 // The bit pattern of an f32. NaN has many: one of them stands for all.
+#[tactic(auto, using(crate::proofs::Parts::nan_pattern))]
 pub fn pattern(x: f32) -> u32
     ensures { result ≡ to_bits binary32 x }
 {
-    if x != x { 0x7fc0_0000 } else { f32::to_bits(x) }
+    if x.is_nan() { 0x7fc0_0000 } else { f32::to_bits(x) }
 }
 
 // Bytes are put together lowest first, and four of them by halves: of these the compiler makes one load.
+#[tactic(auto, unfolding(crate::specs::Parts::word_of))]
 fn half_word(low: u8, high: u8) -> u32
     ensures { result ≡ word_of (low ∷ high ∷ []) }
 {
-    wide(low) + wide(high) * 0x100
+    u32::from(low) + u32::from(high) * 0x100
 }
 
+#[tactic(auto, unfolding(crate::specs::Parts::word_of))]
 fn word(a: u8, b: u8, c: u8, d: u8) -> u32
     ensures { result ≡ word_of (a ∷ b ∷ c ∷ d ∷ []) }
 {
@@ -130,7 +126,7 @@ pub fn decode(format: Format, bytes: &[u8], parts: &mut [f32]) -> usize
     ensures count { result ≡ min (length bytes.now / width format) (length parts.old) }
     ensures parts { parts.new ≡ take result (parts_in format bytes.now) ++ drop result parts.old }
 {
-    let count = least(bytes.len() / part_bytes(format), parts.len());
+    let count = parts.len().min(bytes.len() / part_bytes(format));
     match format {
         Format::Cf32 => read_cf32(bytes, parts, count),
         Format::Cs16 => read_cs16(bytes, parts, count),
@@ -144,7 +140,7 @@ pub fn encode(parts: &[f32], bytes: &mut [u8]) -> usize
     ensures count { result ≡ min (length parts.now) (length bytes.old / 4) }
     ensures bytes { bytes.new ≡ part_bytes (take result parts.now) ++ drop (4 * result) bytes.old }
 {
-    let count = least(parts.len(), bytes.len() / 4);
+    let count = parts.len().min(bytes.len() / 4);
     for n in 0..count {
         let w = pattern(parts[n]);
         bytes[4 * n] = (w % 0x100) as u8;

@@ -115,10 +115,11 @@ fn step(k: usize) -> u32
 }
 
 // Patterns without their sign are in the order of the sizes, and the compiler compares several whole numbers at once.
+#[tactic(auto, unfolding(crate::specs::Level::loudness))]
 fn loudness(x: f32) -> u32
     ensures { result ≡ loudness x }
 {
-    if x != x {
+    if x.is_nan() {
         0
     } else {
         f32::to_bits(x) % 0x8000_0000
@@ -130,8 +131,8 @@ fn peak(parts: &[f32]) -> u32
     ensures { result ≡ peak_of parts.now }
 {
     let mut peak: u32 = 0;
-    for n in 0..parts.len() {
-        let x = loudness(parts[n]);
+    for part in parts {
+        let x = loudness(*part);
         if peak < x {
             peak = x;
         }

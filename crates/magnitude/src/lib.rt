@@ -8,8 +8,6 @@ ghost use Rattle.dsp_types.specs.Samples.{zero_f};
 ghost use Rattle.magnitude.specs.Magnitude.{magnitude_of, magnitudes_in, largest, square};
 ghost use Rattle.magnitude.specs.Pattern.{size_of, exponent_of, significand_of, pattern_units, packed_of};
 
-use dsp_types::least;
-
 // The bit pattern of x without its sign.
 fn size(x: f32) -> u32
     requires { T (not (is_nan x)) }
@@ -23,7 +21,7 @@ fn size(x: f32) -> u32
 fn exponent(p: u32) -> u32
     ensures { result ≡ exponent_of p }
 {
-    if p < 0x80_0000 { 0 } else { p / 0x80_0000 - 1 }
+    (p / 0x80_0000).saturating_sub(1)
 }
 
 fn significand(p: u32) -> u64
@@ -103,7 +101,7 @@ fn packed(e: u32, g: u64) -> u32
     } else {
         (e + 1) * 0x80_0000 + (g / 2) as u32
     };
-    if p < 0x7f80_0000 { p } else { 0x7f7f_ffff }
+    p.min(0x7f7f_ffff)
 }
 
 // The pattern of the magnitude from those of any two parts, the larger first. In units of 2^e, e being the
@@ -194,7 +192,8 @@ fn capped_pattern(p: u32) -> u32
 
 // The magnitude where a test in f64 tells it, else -1.0. A part's square is an f64, and rounding keeps the order: where the
 // rounded sum lies between the squares of an f32 and the next, so does the exact one. Nothing is proved of the guess r; all
-// but one in 10,000 pass, and none that is the root exactly. There is no branch, so that a block is vectorised.
+// but one in 10,000 pass, and none that is the root exactly. There is no branch, and no Option in the place of
+// -1.0, so that a block is vectorised.
 fn quick(re: f32, im: f32) -> f32
     ensures { lt result zero_f ≡ false → result ≡ magnitude_of re im }
 {
@@ -228,8 +227,8 @@ fn any_below(xs: &[f32]) -> bool
     ensures { result ≡ false → (k : ℕ) → k < length xs.now → lt (get_or xs.now k nan) zero_f ≡ false }
 {
     let mut found = false;
-    for i in 0..xs.len() {
-        found = found | (xs[i] < 0.0);
+    for x in xs {
+        found |= *x < 0.0;
     }
     found
 }
@@ -238,7 +237,8 @@ fn any_below(xs: &[f32]) -> bool
 pub fn magnitudes(re: &[f32], im: &[f32], out: &mut [f32])
     ensures { out.new ≡ magnitudes_in re.now im.now out.old }
 {
-    let n = least(least(re.len(), im.len()), out.len());
+    let n = re.len().min(im.len()).min(out.len());
+    // By index: of what a zip over `iter_mut` lends, nothing is known after the loop.
     for i in 0..n {
         out[i] = quick(re[i], im[i]);
     }

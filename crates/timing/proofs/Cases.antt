@@ -1,60 +1,28 @@
 -- What the code's tests on floats say. Assumes nothing.
-use mathlib.Core.Path.{◌≡◌, refl, sym, ◌∙◌}
-use Prim.Native.Nat.{ℕ, ◌+◌, ◌*◌, ◌/◌, ◌≤◌, ◌<◌, min}
-use native.Mathlib.Nat.{zero-mul, mul-one, mul-pos, zero-lt-suc, le-div_iff_mul-le, div-lt_iff_lt-mul}
+use mathlib.Core.Path.{◌≡◌, refl, sym}
+use Prim.Native.Nat.{ℕ, ◌*◌, ◌/◌, ◌≤◌, ◌<◌, min}
+use native.Mathlib.Nat.{mul-one, mul-pos, zero-lt-suc, le-div_iff_mul-le, div-lt_iff_lt-mul}
 use native.Mathlib.Omega.{arith}
-use mathlib.Core.Bool.{Bool, true, false, ◌&&◌, ◌||◌, cond, beq, true≢false, false≢true}
-use lib.IntN.{pos}
-use lib.Dec.{T, leb, ltb, eqb}
-use borrow.Author.Tests.{ltb-true, ltb-false, eqb-true, eqb-false, le-ltb, le-leb, lt-leb, ne_eqb, leb-true, leb-false}
-use lib.Ieee.{Float, nan, inf, fin, binary32, up, down, neg, lt, eq, le, fits, of_bits, to_unsigned}
-use lib.Ieee.Fits.{neg-fits, down_pos}
-use lib.Ieee.Bits.{of_bits-fits}
-use lib.Ieee.Back.{whole_unique}
+use mathlib.Core.Bool.{Bool, true, false, ◌&&◌, ◌||◌, cond}
+use lib.Dec.{leb, ltb, eqb}
+use borrow.Author.Tests.{ltb-true, ltb-false, eqb-true, eqb-false, le-leb, lt-leb, ne_eqb, leb-true, leb-false}
+use lib.Ieee.{Float, nan, inf, fin, binary32, up, down, le, of_bits, to_unsigned}
+use lib.Ieee.Fits.{down_pos}
 use lib.Ieee.Scale.{finite}
-use Rattle.dsp_types.specs.Samples.{zero_f, one_f}
+use Rattle.std.specs.Float.{float_with_sign, float_is_finite}
+use Rattle.dsp_types.specs.Samples.{one_f}
 use Rattle.timing.specs.Floats.{two_f}
 use Rattle.timing.specs.Turns.{absolute_of, whole_of}
 
-and_first : (a b : Bool) → (a && b) ≡ true → a ≡ true
-and_first true b h = refl
-and_first false b h = h
+-- ---- std's words
+pub absolute_is : (x : Float) → float_with_sign false x ≡ absolute_of x
+unfolding float_with_sign absolute_of
+absolute_is nan = refl
+absolute_is (inf s) = refl
+absolute_is (fin s m e) = refl
 
--- ---- `absolute`: below 0 the sign goes, a zero has none, and nothing else has one
-pub negative_case : (x : Float) → lt x zero_f ≡ true → neg x ≡ absolute_of x
-unfolding lt neg absolute_of of_bits
-negative_case nan h = absurd (false≢true h)
-negative_case (inf true) h = refl
-negative_case (inf false) h = absurd (false≢true h)
-negative_case (fin true m e) h = refl
-negative_case (fin false m e) h = absurd (false≢true (sym (le-ltb (m * up e * 1) (0 * down e) (omega (arith, zero-mul (down e)))) ∙ h))
-
-pub zero_case : (x : Float) → T (fits binary32 x) → eq x zero_f ≡ true → zero_f ≡ absolute_of x
-unfolding eq neg absolute_of of_bits
-zero_case nan f h = absurd (false≢true h)
-zero_case (inf s) f h = absurd (false≢true h)
-zero_case (fin s m e) f h =
-    let level : m * up e * 1 ≡ 0 * down e = eqb-true (m * up e * 1) (0 * down e) (and_first (eqb (m * up e * 1) (0 * down e)) (beq s false || eqb (m * up e * 1) 0) h) in
-    whole_unique binary32 (fin false 0 (pos 0)) (fin false m e) false 0 (of_bits-fits binary32 0) (without_sign s f) (refl, refl) (refl, level)
-  where
-    without_sign : (s : Bool) → T (fits binary32 (fin s m e)) → T (fits binary32 (fin false m e))
-    without_sign true h = neg-fits binary32 (fin true m e) h
-    without_sign false h = h
-
-pub positive_case : (x : Float) → lt x zero_f ≡ false → eq x zero_f ≡ false → x ≡ absolute_of x
-unfolding lt eq absolute_of of_bits
-positive_case nan h k = refl
-positive_case (inf true) h k = absurd (true≢false h)
-positive_case (inf false) h k = refl
-positive_case (fin false m e) h k = refl
-positive_case (fin true m e) h k =
-    let none : m * up e * 1 + 0 * down e ≤ 0 = ltb-false 0 (m * up e * 1 + 0 * down e) h in
-    let size : m * up e * 1 ≡ 0 = omega arith in
-    let other : 0 * down e ≡ 0 = omega arith in
-    absurd (true≢false (sym (rw (size, other)) ∙ k))
-
-pub finite_is : (x : Float) → lt (absolute_of x) (of_bits binary32 0x7f80_0000) ≡ finite x
-unfolding lt absolute_of of_bits
+pub finite_is : (x : Float) → float_is_finite x ≡ finite x
+unfolding float_is_finite
 finite_is nan = refl
 finite_is (inf s) = refl
 finite_is (fin s m e) = refl

@@ -14,20 +14,21 @@ use Rattle.timing.proofs.Law.{turns_law}
 
 -- ---- a turn of the loop, whose delay is that of the symbol's first sample
 
-pub step_i : (delayed : ℕ → Float) (d n delay : ℕ) → delay ≡ d - 4 * n
-    → add binary32 (sum_i delayed d n) (sub binary32 (delayed delay) (delayed (delay - 2))) ≡ sum_i delayed d (n + 1)
+pub step_i : (delayed : ℕ → Float) (d n delay : ℕ) (sum a b : Float) → delay ≡ d - 4 * n → sum ≡ sum_i delayed d n
+    → a ≡ delayed (delay - 0) → b ≡ delayed (delay - 2) → add binary32 sum (sub binary32 a b) ≡ sum_i delayed d (n + 1)
 unfolding sum_i
-step_i delayed d n delay e =
+step_i delayed d n delay sum a b e es ea eb =
+    let zero : delay - 0 ≡ d - 4 * n = omega arith in
     let two : delay - 2 ≡ d - (4 * n + 2) = omega arith in
-    rw (add-one n, two, e)
+    rw (add-one n, es, ea, eb, zero, two)
 
-pub step_q : (delayed : ℕ → Float) (d n delay : ℕ) → delay ≡ d - 4 * n
-    → add binary32 (sum_q delayed d n) (sub binary32 (delayed (delay - 1)) (delayed (delay - 3))) ≡ sum_q delayed d (n + 1)
+pub step_q : (delayed : ℕ → Float) (d n delay : ℕ) (sum a b : Float) → delay ≡ d - 4 * n → sum ≡ sum_q delayed d n
+    → a ≡ delayed (delay - 1) → b ≡ delayed (delay - 3) → add binary32 sum (sub binary32 a b) ≡ sum_q delayed d (n + 1)
 unfolding sum_q
-step_q delayed d n delay e =
+step_q delayed d n delay sum a b e es ea eb =
     let one : delay - 1 ≡ d - (4 * n + 1) = omega arith in
     let three : delay - 3 ≡ d - (4 * n + 3) = omega arith in
-    rw (add-one n, one, three)
+    rw (add-one n, es, ea, eb, one, three)
 
 -- ---- only the magnitudes up to d steps ago count
 

@@ -5,10 +5,10 @@ ghost use Rattle.history.specs.History.{held_in};
 ghost use Rattle.timing.specs.Estimate.{estimate_timing};
 
 use crate::quarter_turns;
-use dsp_types::saturating_sub;
 use history::recall;
 
 // The estimate for n_symbols symbols from d steps ago on, in a ring of magnitudes whose newest stands at `at`. A delay counts modulo 2,048.
+#[tactic(auto, using(crate::proofs::Window::step_i, crate::proofs::Window::step_q), unfolding(crate::specs::Estimate::sum_i, crate::specs::Estimate::sum_q))]
 pub fn estimate_timing(abs: &[f32; 2048], at: usize, d: usize, n_symbols: usize) -> f32
     ensures { result ≡ estimate_timing (λ k. ago zero_f (held_in abs.now at) (k % 2048)) d n_symbols }
 {
@@ -16,10 +16,10 @@ pub fn estimate_timing(abs: &[f32; 2048], at: usize, d: usize, n_symbols: usize)
     let mut sum_q: f32 = 0.0;
     let mut delay = d;
     for _ in 0..n_symbols {
-        sum_i += recall(abs, at, delay) - recall(abs, at, saturating_sub(delay, 2));
-        sum_q += recall(abs, at, saturating_sub(delay, 1))
-            - recall(abs, at, saturating_sub(delay, 3));
-        delay = saturating_sub(delay, 4);
+        let held = |later: usize| recall(abs, at, delay.saturating_sub(later));
+        sum_i += held(0) - held(2);
+        sum_q += held(1) - held(3);
+        delay = delay.saturating_sub(4);
     }
     quarter_turns(sum_i, sum_q)
 }

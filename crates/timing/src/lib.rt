@@ -5,37 +5,17 @@ mod estimate;
 
 ghost use Rattle.std.specs.Prelude.{◌≡◌};
 ghost use Rattle.std.specs.Float.Ieee.{lt};
-ghost use Rattle.std.specs.Float.Ieee.Scale.{finite};
 ghost use Rattle.dsp_types.specs.Samples.{zero_f};
-ghost use Rattle.timing.specs.Turns.{absolute_of, curve_of, octant_of, quadrant_of, directed, quarter_turns, whole_of, fract_of};
+ghost use Rattle.timing.specs.Turns.{curve_of, octant_of, quadrant_of, directed, quarter_turns, whole_of, fract_of};
 
 pub use estimate::estimate_timing;
 
-// |x|: a zero loses its sign too.
-fn absolute(x: f32) -> f32
-    ensures { result ≡ absolute_of x }
-{
-    if x < 0.0 {
-        -x
-    } else if x == 0.0 {
-        0.0
-    } else {
-        x
-    }
-}
-
-// Neither NaN nor infinite: NaN is below nothing.
-fn is_finite(x: f32) -> bool
-    ensures { result ≡ finite x }
-{
-    absolute(x) < f32::from_bits(0x7f80_0000)
-}
-
-// Whether (i, q) has a direction.
+// Whether (i, q) has a direction: both are numbers, and not both zero.
+#[tactic(auto, using(crate::proofs::Cases::finite_is), unfolding(crate::specs::Turns::directed))]
 fn is_directed(i: f32, q: f32) -> bool
     ensures { result ≡ directed i q }
 {
-    is_finite(i) & is_finite(q) & !((i == 0.0) & (q == 0.0))
+    i.is_finite() && q.is_finite() && !(i == 0.0 && q == 0.0)
 }
 
 // A curve through (0, 0) and (1, 0.5) that stands for the arc tangent.
@@ -46,6 +26,7 @@ fn curve(z: f32) -> f32
 }
 
 // The quarter turns of the direction (a, b), neither below 0 and not both 0.
+#[tactic(auto, unfolding(crate::specs::Turns::octant_of))]
 fn octant(a: f32, b: f32) -> f32
     ensures { result ≡ octant_of a b }
 {
@@ -57,6 +38,7 @@ fn octant(a: f32, b: f32) -> f32
 }
 
 // The quarter turns u of (|i|, |q|) as those of (i, q).
+#[tactic(auto, unfolding(crate::specs::Turns::quadrant_of, crate::specs::Turns::wrapped_of))]
 fn quadrant(i: f32, q: f32, u: f32) -> f32
     ensures { result ≡ quadrant_of (lt i zero_f) (lt q zero_f) u }
 {
@@ -74,17 +56,19 @@ fn quadrant(i: f32, q: f32, u: f32) -> f32
 }
 
 // The direction of (i, q) in quarter turns, from 0 to below 4.
+#[tactic(auto, using(crate::proofs::Cases::absolute_is), unfolding(crate::specs::Turns::quarter_turns))]
 pub fn quarter_turns(i: f32, q: f32) -> f32
     ensures { result ≡ quarter_turns i q }
 {
     if is_directed(i, q) {
-        quadrant(i, q, octant(absolute(i), absolute(q)))
+        quadrant(i, q, octant(i.abs(), q.abs()))
     } else {
         0.0
     }
 }
 
 // The whole quarter turns: the first sample of a symbol in its window.
+#[tactic(auto, using(crate::proofs::Cases::whole_tests))]
 pub fn whole(t: f32) -> usize
     ensures { result ≡ whole_of t }
 {
@@ -99,7 +83,8 @@ pub fn whole(t: f32) -> usize
     }
 }
 
-// What is left of t: how far on from that sample.
+// What is left of t: how far on from that sample. std's `fract` is another number below 0 and from 4 on.
+#[tactic(auto, using(crate::proofs::Parts::whole_lt), unfolding(crate::specs::Turns::fract_of))]
 pub fn fract(t: f32) -> f32
     ensures { result ≡ fract_of t }
 {

@@ -1,24 +1,19 @@
 -- Kind by kind: the first training sequence of the kind that is found.
-use Rattle.std.proofs.Common.{arith}
+use Rattle.std.proofs.Common.{rules}
 use Rattle.train_consts.specs.Training.{extended, synchronization}
-use Rattle.burst_finder.proofs.Steps.{is_sync, not_sync, is_full, is_sub}
+use Rattle.burst_finder.specs.Slots.{check_slot, IsChecked}
+use Rattle.burst_finder.proofs.Steps.{either_checked, checked_value}
 use Rattle.burst_finder.proofs.check_slot.Goals as goal
+use Rattle.burst_finder.proofs.check_slot.Goals.{in-Dl, in-UlFull, in-UlSub}
 
-pub returns-then-sync-lt-ERRS_NO_BURST : goal.returns-then-sync-lt-ERRS_NO_BURST
-unfolding synchronization
-returns-then-sync-lt-ERRS_NO_BURST c =
-    let s = c.check_sequence-sync in
-    is_sync c.args.slot_type c.args.bits.now s.result c.in-Dl.is s.ensures (omega arith)
-
-pub returns-else-sync-lt-ERRS_NO_BURST : goal.returns-else-sync-lt-ERRS_NO_BURST
-unfolding synchronization
-returns-else-sync-lt-ERRS_NO_BURST c =
-    let s = c.check_sequence-sync in
-    not_sync c.args.slot_type c.args.bits.now c.check_normal.result c.in-Dl.is s.result s.ensures (omega arith) c.check_normal.ensures
-
-pub returns-in-UlFull : goal.returns-in-UlFull
-returns-in-UlFull c = is_full c.args.slot_type c.args.bits.now c.check_normal-in-UlFull.result c.in-UlFull.is c.check_normal-in-UlFull.ensures
-
-pub returns-in-UlSub : goal.returns-in-UlSub
-unfolding extended
-returns-in-UlSub c = is_sub c.args.slot_type c.args.bits.now c.check_sequence.result c.in-UlSub.is c.check_sequence.ensures
+pub returns : goal.returns
+unfolding check_slot synchronization extended
+returns c = checked_value c.match-slot_type.found _ _ checked c.unwrap_or_else.ensures
+  where
+    checked : IsChecked c.match-slot_type.found (check_slot c.args.slot_type c.args.bits.now)
+    checked =
+        elim c.match-slot_type.branch [
+          | in-Dl w ↦ rw (w.found-is, w.in-Dl.is) (either_checked _ _ _ _ w.check_sequence.ensures (search rules))
+          | in-UlFull w ↦ rw (w.found-is, w.in-UlFull.is) w.check_normal-found.ensures
+          | in-UlSub w ↦ rw (w.found-is, w.in-UlSub.is) w.check_sequence-found.ensures
+        ]

@@ -1,22 +1,15 @@
--- Each turn writes one element more; at the end they are all of `from`.
-use Rattle.std.proofs.Common.{◌≡◌, ◌+◌, ◌%◌, ◌∙◌, length, arith, rules}
+-- The copy stores the run as its elements would be one by one.
+use Rattle.std.proofs.Common.{◌≡◌, ◌+◌, ◌-◌, ◌≤◌, ◌∙◌, length, arith, rules}
+use Rattle.std.proofs.lemmas.Slice.{put_mid-paste}
 use lib.Seq.{take-length}
-use Rattle.history.specs.History.{held_after}
-use Rattle.history.proofs.Laws.{held_mod, run_step}
+use Rattle.history.proofs.Laws.{run_stored}
 use Rattle.history.proofs.store_run.Goals as goal
-
-pub loop-n-init : goal.loop-n-init
-unfolding held_after
-loop-n-init c =
-    let e : (c.args.at % 2048 + 0) % 2048 ≡ c.args.at % 2048 = omega arith in
-    rw e (held_mod c.args.ring.now c.args.at)
-
-pub loop-n-preserved : goal.loop-n-preserved
-loop-n-preserved c =
-    rw c.next-start.ensures
-    (run_step c.loop-n.ring _ c.args.from.now c.args.at c.loop-n.n (search rules) c.loop-n-test.true (omega arith) c.loop-n.invariant)
 
 pub returns-clause-result_after : goal.returns-clause-result_after
 returns-clause-result_after c =
-    let e : length c.args.from.now ≡ c.loop-n.n = omega arith in
-    rw e (c.loop-n.invariant ∙ rw (← e, take-length c.args.from.now))
+    let from = c.args.from.now in
+    let start = c.next-start.result in
+    let k : length from ≡ start + length from - start = omega arith in
+    let h : length from ≤ length from = omega arith in
+    rw (put_mid-paste start (start + length from - start) c.args.ring.now c.copy_from_slice.new.self from (length from) c.copy_from_slice.ensures.after k (search rules), c.next-start.ensures)
+    (run_stored c.args.ring.now from c.args.at (length from) (search rules) h (omega arith) ∙ rw (take-length from))

@@ -6,7 +6,7 @@ use Rattle.iq_format.proofs.encode.Goals as goal
 
 pub loop-n-init : goal.loop-n-init
 unfolding part_bytes
-loop-n-init c = (c.least-count.ensures, refl, refl, refl)
+loop-n-init c = (search rules, refl, refl, refl)
 
 pub loop-n-preserved : goal.loop-n-preserved
 loop-n-preserved c =

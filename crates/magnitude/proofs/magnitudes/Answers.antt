@@ -15,13 +15,13 @@ loop-i-preserved c =
 pub loop-i-then-any_below-init : goal.loop-i-then-any_below-init
 loop-i-then-any_below-init c =
     let l = c.loop-i in
-    to_mend c.args.re.now c.args.im.now c.args.out.now l.out _ l.i (c.least-n.ensures ∙ ap (λ n. min n (length c.args.out.now)) c.least.ensures) (search rules) l.invariant
+    to_mend c.args.re.now c.args.im.now c.args.out.now l.out _ l.i (c.min-n.ensures ∙ ap (λ n. min n (length c.args.out.now)) c.min.ensures) (search rules) l.invariant
 
 pub loop-i-then-any_below-preserved : goal.loop-i-then-any_below-preserved
 loop-i-then-any_below-preserved c =
     let l = c.loop-i-then-any_below in
     let o = c.loop-i.out in
-    let h : l.i < c.least-n.result = omega arith in
+    let h : l.i < c.min-n.result = omega arith in
     let k : l.i < length l.out = omega (arith, l.invariant.long) in
     elim c.if-out-i.branch [
       | then-out-i w ↦ rw w.out-is (mended_one c.args.re.now c.args.im.now o l.out _ l.i h k w.exact.result w.exact.ensures l.invariant)
@@ -32,9 +32,9 @@ pub returns-after-loop-i-then-any_below : goal.returns-after-loop-i-then-any_bel
 returns-after-loop-i-then-any_below c =
     let m = c.loop-i-then-any_below in
     let l = c.loop-i in
-    all_mended c.args.re.now c.args.im.now c.args.out.now l.out _ l.i (c.least-n.ensures ∙ ap (λ n. min n (length c.args.out.now)) c.least.ensures) (search rules) l.invariant m.out m.i (search rules) m.invariant
+    all_mended c.args.re.now c.args.im.now c.args.out.now l.out _ l.i (c.min-n.ensures ∙ ap (λ n. min n (length c.args.out.now)) c.min.ensures) (search rules) l.invariant m.out m.i (search rules) m.invariant
 
 pub returns-else-any_below : goal.returns-else-any_below
 returns-else-any_below c =
     let l = c.loop-i in
-    none_to_mend c.args.re.now c.args.im.now c.args.out.now l.out _ l.i (c.least-n.ensures ∙ ap (λ n. min n (length c.args.out.now)) c.least.ensures) (search rules) l.invariant (c.if-any_below.ensures refl)
+    none_to_mend c.args.re.now c.args.im.now c.args.out.now l.out _ l.i (c.min-n.ensures ∙ ap (λ n. min n (length c.args.out.now)) c.min.ensures) (search rules) l.invariant (c.if-any_below.ensures refl)

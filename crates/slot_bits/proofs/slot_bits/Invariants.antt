@@ -1,5 +1,5 @@
 -- k changes are decided, and p is symbol k.
-use Rattle.std.proofs.Common.{◌≡◌, ℕ, ◌-◌, ◌*◌, ◌+◌, ◌++◌, List, replicate}
+use Rattle.std.proofs.Common.{◌≡◌, ℕ, ◌-◌, ◌*◌, ◌%◌, ◌+◌, ◌++◌, List, replicate}
 use lib.Ieee.{Float}
 use Rattle.dsp_types.specs.declared.ComplexSample.{ComplexSample}
 use Rattle.dsp_types.specs.Samples.{silence, ago}
@@ -13,6 +13,6 @@ symbols_in re im at d fract first j = symbol_at (ago silence (samples_in re im a
 
 abbrev pub invariant-loop-k : goal.invariant-loop-k
 invariant-loop-k l = record {
-  symbol_k : l.p ≡ symbols_in l.re l.im l.at l.from l.fract l.start l.k;
-  made : l.bits ≡ decisions (symbols_in l.re l.im l.at l.from l.fract l.start) l.k ++ replicate (510 - 2 * l.k) 0;
+  symbol_k : l.p ≡ symbols_in l.re l.im l.at (l.d % 2048) l.fract l.start l.k;
+  made : l.bits ≡ decisions (symbols_in l.re l.im l.at (l.d % 2048) l.fract l.start) l.k ++ replicate (510 - 2 * l.k) 0;
 }

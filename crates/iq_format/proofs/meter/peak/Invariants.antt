@@ -3,5 +3,5 @@ use Rattle.std.proofs.Common.{◌≡◌, take}
 use Rattle.iq_format.specs.Level.{peak_of}
 use Rattle.iq_format.proofs.meter.peak.Given as goal
 
-abbrev pub invariant-loop-n : goal.invariant-loop-n
-invariant-loop-n l = l.peak ≡ peak_of (take l.n l.parts)
+abbrev pub invariant-loop-part : goal.invariant-loop-part
+invariant-loop-part l = l.peak ≡ peak_of (take l.part-index l.parts)
