@@ -81,7 +81,8 @@ module _ (n start : ℕ) (h : start ≤ n) (k : n - start < 1020) where
 
 -- ---- what is due in a call
 
-some_number : (r : Refusal) → 1 ≤ number_of r
+-- a refusal's number is not 0
+pub some_number : (r : Refusal) → 1 ≤ number_of r
 some_number BadSample = omega arith
 some_number BadCounter = omega arith
 some_number BadLength = omega arith

@@ -90,7 +90,7 @@ fn point(phase: u8) -> ComplexSample
 
 // The phase after what is due.
 #[tactic(auto, unfolding(crate::specs::Dqpsk::phase_after))]
-pub fn phase_after(phase: u8, due: Due) -> u8
+fn phase_after(phase: u8, due: Due) -> u8
     ensures { result ≡ phase_after phase (Ok due) }
 {
     match due {
@@ -101,7 +101,7 @@ pub fn phase_after(phase: u8, due: Due) -> u8
 
 // The sample that is fed, where this is the phase after what is due.
 #[tactic(auto, unfolding(crate::specs::Dqpsk::input_of))]
-pub fn input(phase: u8, due: Due) -> ComplexSample
+fn input(phase: u8, due: Due) -> ComplexSample
     ensures { result ≡ input_of phase (Ok due) }
 {
     match due {
