@@ -1,4 +1,4 @@
--- Patterns of NaN, words of bytes, and one turn of each loop. Assumes nothing.
+-- Patterns of NaN, words of bytes, the parts that are read, and one turn of the loop that writes. Assumes nothing.
 use mathlib.Core.Path.{◌≡◌, refl, sym, ap, subst, ◌∙◌}
 use mathlib.Core.Bool.{true}
 use lib.Dec.{T}

@@ -53,7 +53,7 @@ pub fn pattern(x: f32) -> u32
     }
 }
 
-// The parts of bytes, lowest first.
+// Bytes come lowest first.
 #[tactic(auto, using(crate::proofs::Parts::word_32), unfolding(crate::specs::Parts::part_of))]
 fn cf32_part(raw: [u8; 4]) -> f32
     ensures { result ≡ part_of Format.Cf32 (word_of raw) }
@@ -94,6 +94,7 @@ fn read<B: Copy, F: Fn(B) -> f32>(raw: &[B], parts: &mut [f32], part: F) -> usiz
     ensures rest { drop result parts.new ≡ drop result parts.old }
 {
     let count = parts.len().min(raw.len());
+    // By index, as in `encode`: of what `iter_mut` in a zip and `chunks_exact_mut` lend, nothing is known after the loop.
     for n in 0..count {
         parts[n] = part(raw[n]);
     }
