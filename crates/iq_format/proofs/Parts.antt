@@ -1,25 +1,26 @@
--- Patterns of NaN, words of bytes, and one turn of each loop. Assumes nothing.
+-- Patterns of NaN, words of bytes, the parts that are read, and one turn of the loop that writes. Assumes nothing.
 use mathlib.Core.Path.{◌≡◌, refl, sym, ap, subst, ◌∙◌}
 use mathlib.Core.Bool.{true}
 use lib.Dec.{T}
 use lib.IntN.{ℤ, negsuc, ◌-ℤ◌}
-use mir.Syntax.{w16}
+use mir.Syntax.{w16, w32}
+use Rattle.std.specs.Int.{from_le_bytes}
+use Rattle.std.specs.Simd.{first_chunks}
 use mir.Val.{SFits, to_z, of_z}
 use mir.ValLaws.{to_z-of_z, to_z_pos}
 use mathlib.Core.List.{List, [], ◌∷◌, ◌++◌}
-use Prim.Native.Nat.{ℕ, zero, suc, ◌+◌, ◌-◌, ◌*◌, ◌/◌, ◌%◌, ◌<◌, ◌≤◌, min}
+use Prim.Native.Nat.{ℕ, zero, suc, ◌+◌, ◌-◌, ◌*◌, ◌/◌, ◌%◌, ◌<◌, ◌≤◌}
 use native.Mathlib.Omega.{arith}
 use native.Mathlib.Nat.{mul-suc}
 use native.Mathlib.Numerals.{add-one}
-use lib.ListN.{get_or, length, set, take, drop, length-append, length-set, take-append-drop}
-use lib.Seq.{take-suc, take-suc-set, drop-set-lt, drop-cons, drop-drop, take_at, drop_at, sets-eq, length-take-le}
-use lib.Ieee.{Float, nan, inf, fin, binary32, is_nan, ne, of_bits, to_bits}
+use lib.ListN.{get_or, length, set, take, drop, length-append, take-append-drop}
+use lib.Seq.{take-suc, drop-cons, drop-drop, take_at, drop_at, sets-eq, length-take-le}
+use lib.Ieee.{Float, nan, inf, fin, binary32, is_nan, of_bits, to_bits}
 use lib.Ieee.Bits.{nan_bits_is, nan_bits_above}
-use lib.Ieee.Compare.{differs_from_itself}
 use borrow.Author.Tests.{lt-ltb, le-ltb}
 use Rattle.dsp_types.proofs.Signs.{minus}
 use Rattle.iq_format.specs.declared.Format.{Format}
-use Rattle.iq_format.specs.declared.Format.TheVariants.{Cf32, Cs16, Cu8}
+use Rattle.iq_format.specs.declared.Format.TheVariants.{Cu8}
 use Rattle.iq_format.specs.Parts.{word_of, width, signed16, part_of, first_parts, parts_in, word_bytes, part_bytes}
 
 -- ---- NaN
@@ -63,19 +64,6 @@ part_word format bytes n = word_of (take (width format) (drop (width format * n)
 next_byte : (k i j : ℕ) (bytes : List ℕ) → i < length bytes → suc i ≡ j → take (suc k) (drop i bytes) ≡ get_or bytes i 0 ∷ take k (drop j bytes)
 next_byte k i j bytes h e = rw (← e, drop-cons bytes i 0)
 
-pub word_of_four : (n : ℕ) (bytes : List ℕ) → 4 * n + 3 < length bytes
-    → part_word Cf32 bytes n ≡ word_of (get_or bytes (4 * n) 0 ∷ get_or bytes (4 * n + 1) 0 ∷ get_or bytes (4 * n + 2) 0 ∷ get_or bytes (4 * n + 3) 0 ∷ [])
-word_of_four n bytes h =
-    rw (
-      next_byte 3 (4 * n) (4 * n + 1) bytes (omega arith) (omega arith),
-      next_byte 2 (4 * n + 1) (4 * n + 2) bytes (omega arith) (omega arith),
-      next_byte 1 (4 * n + 2) (4 * n + 3) bytes (omega arith) (omega arith),
-      next_byte 0 (4 * n + 3) (4 * n + 4) bytes (omega arith) (omega arith),
-    )
-
-pub word_of_two : (n : ℕ) (bytes : List ℕ) → 2 * n + 1 < length bytes → part_word Cs16 bytes n ≡ word_of (get_or bytes (2 * n) 0 ∷ get_or bytes (2 * n + 1) 0 ∷ [])
-word_of_two n bytes h = rw (next_byte 1 (2 * n) (2 * n + 1) bytes (omega arith) (omega arith), next_byte 0 (2 * n + 1) (2 * n + 2) bytes (omega arith) (omega arith))
-
 pub word_of_one : (n : ℕ) (bytes : List ℕ) → n < length bytes → part_word Cu8 bytes n ≡ word_of (get_or bytes n 0 ∷ [])
 word_of_one n bytes h = let e : 1 * n ≡ n = omega arith in rw (e, next_byte 0 n (n + 1) bytes h (omega arith))
 
@@ -93,53 +81,25 @@ first_at format (suc m) (suc n) bytes h =
     let e : w * suc n ≡ w + w * n = omega (arith, mul-suc w n) in
     rw (e, ← drop-drop (w * n) w bytes) (first_at format m n (drop w bytes) (omega arith))
 
-rest_turn : {A : Type 0} (n : ℕ) (parts parts₀ : List A) (x : A) → drop n parts ≡ drop n parts₀ → drop (n + 1) (set parts n x) ≡ drop (n + 1) parts₀
-rest_turn n parts parts₀ x inv = drop-set-lt (n + 1) parts n x (omega arith) ∙ sym (drop-drop 1 n parts) ∙ ap (drop 1) inv ∙ drop-drop 1 n parts₀
+-- what is made of each part's bytes, before what is behind them in the buffer
+module _ (format : Format) (bytes : List ℕ) (parts₀ parts : List Float) where
+  taken : (n : ℕ) → n ≤ length bytes / width format → n ≤ length parts → ((k : ℕ) → k < n → get_or parts k nan ≡ part_of format (part_word format bytes k))
+      → take n parts ≡ take n (first_parts format (length bytes / width format) bytes)
+  taken zero h l each = refl
+  taken (suc n) h l each =
+      let m = length bytes / width format in
+      rw (
+        take-suc parts n nan l,
+        take-suc (first_parts format m bytes) n nan (rw length_first h),
+        first_at format m n bytes h,
+        each n (omega arith),
+        taken n (omega arith) (omega arith) (λ k i. each k (omega arith)),
+      )
 
--- so many parts are read, and the rest of the buffer is as it was
-pub record Read (format : Format) (bytes : List ℕ) (parts₀ parts : List Float) (n : ℕ) : Type 0 where
-  pub same : length parts ≡ length parts₀
-  pub read : take n parts ≡ take n (parts_in format bytes)
-  pub rest : drop n parts ≡ drop n parts₀
-
-pub read_none : (format : Format) (bytes : List ℕ) (parts : List Float) → Read format bytes parts parts 0
-read_none format bytes parts = record { same = refl; read = refl; rest = refl }
-
-pub read_all : {format : Format} {bytes : List ℕ} {parts₀ parts : List Float} {n : ℕ} → Read format bytes parts₀ parts n
-    → parts ≡ take n (parts_in format bytes) ++ drop n parts₀
-read_all {format} {bytes} {parts₀} {parts} {n} r = sym (take-append-drop n parts) ∙ (λ i. r.read i ++ r.rest i)
-
--- a part more
-pub read_turn : {format : Format} {bytes : List ℕ} {parts₀ parts : List Float} {n : ℕ} (x : Float) → n < length bytes / width format → n < length parts
-    → x ≡ part_of format (part_word format bytes n) → Read format bytes parts₀ parts n → Read format bytes parts₀ (set parts n x) (n + 1)
-unfolding parts_in
-read_turn {format} {bytes} {parts₀} {parts} {n} x h l e r = record { same = length-set parts n x ∙ r.same; read = one_more; rest = rest_turn n parts parts₀ x r.rest }
-  where
-    m : ℕ
-    m = length bytes / width format
-
-    one_more : take (n + 1) (set parts n x) ≡ take (n + 1) (first_parts format m bytes)
-    one_more = rw (add-one n, take-suc-set parts n x l, take-suc (first_parts format m bytes) n nan (rw length_first h), first_at format m n bytes h, e, r.read)
-
--- ---- which loop is run
-
-pub width_above : (format : Format) → 0 < width format
-width_above Cf32 = omega arith
-width_above Cs16 = omega arith
-width_above Cu8 = omega arith
-
-room : (format : Format) (count l p : ℕ) → count ≡ min (l / width format) p → (width format * count ≤ l) × (count ≤ p)
-room Cf32 count l p e = (omega arith, omega arith)
-room Cs16 count l p e = (omega arith, omega arith)
-room Cu8 count l p e = (omega arith, omega arith)
-
-module _ {format known : Format} (is : format ≡ known) {w count : ℕ} (e : w ≡ width format) where
-  pub loop_room : (l p : ℕ) → count ≡ min (l / w) p → (width known * count ≤ l) × (count ≤ p)
-  loop_room l p c = room known count l p (rw (e, is) at c)
-
-  pub loop_parts : (bytes : List ℕ) (parts last : List Float) → count ≡ min (length bytes / w) (length parts) → last ≡ take count (parts_in known bytes) ++ drop count parts
-      → (count ≡ min (length bytes / width format) (length parts)) × (last ≡ take count (parts_in format bytes) ++ drop count parts)
-  loop_parts bytes parts last c r = (rw e at c, rw is r)
+  pub all_read : (n : ℕ) → n ≤ length bytes / width format → n ≤ length parts → drop n parts ≡ drop n parts₀
+      → ((k : ℕ) → k < n → get_or parts k nan ≡ part_of format (part_word format bytes k)) → parts ≡ take n (parts_in format bytes) ++ drop n parts₀
+  unfolding parts_in
+  all_read n h l rest each = sym (take-append-drop n parts) ∙ rw (taken n h l each, rest)
 
 -- ---- parts written
 
@@ -183,3 +143,29 @@ module _ (n w : ℕ) (parts : List Float) (bytes bytes₀ : List ℕ) (h : 4 * n
   left_turn inv =
       let m : 4 * (n + 1) ≡ 4 * n + 4 = omega arith in
       four_left n _ _ _ _ bytes h ∙ sym (drop-drop 4 (4 * n) bytes) ∙ ap (drop 4) inv ∙ drop-drop 4 (4 * n) bytes₀ ∙ ap (λ (k : ℕ). drop k bytes₀) (sym m)
+
+pub word_32 : (raw : List ℕ) (n : ℕ) → length raw ≡ 4 → n ≡ from_le_bytes w32 raw → n ≡ word_of raw
+unfolding word_of
+word_32 [] n h e = absurd (omega arith)
+word_32 (a ∷ []) n h e = absurd (omega arith)
+word_32 (a ∷ b ∷ []) n h e = absurd (omega arith)
+word_32 (a ∷ b ∷ c ∷ []) n h e = absurd (omega arith)
+word_32 (a ∷ b ∷ c ∷ d ∷ []) n h e = omega arith
+word_32 (a ∷ b ∷ c ∷ d ∷ x ∷ l) n h e = absurd (omega arith)
+
+chunk_at : (w m n : ℕ) (bytes d : List ℕ) → n < m → get_or (first_chunks w m bytes) n d ≡ take w (drop (w * n) bytes)
+chunk_at w zero n bytes d h = absurd (omega arith)
+chunk_at w (suc m) zero bytes d h = let z : w * 0 ≡ 0 = omega arith in rw z
+chunk_at w (suc m) (suc n) bytes d h =
+    let e : w * suc n ≡ w + w * n = omega (arith, mul-suc w n) in
+    rw (e, ← drop-drop (w * n) w bytes) (chunk_at w m n (drop w bytes) d (omega arith))
+
+pub chunk_is : (w m k : ℕ) (bytes : List ℕ) (chunks : List (List ℕ)) → chunks ≡ first_chunks w m bytes → k < m → get_or chunks k [] ≡ take w (drop (w * k) bytes)
+chunk_is w m k bytes chunks e h = ap (λ (l : List (List ℕ)). get_or l k []) e ∙ chunk_at w m k bytes [] h
+
+pub word_16 : (raw : List ℕ) (n : ℕ) → length raw ≡ 2 → n ≡ from_le_bytes w16 raw → n ≡ word_of raw
+unfolding word_of
+word_16 [] n h e = absurd (omega arith)
+word_16 (a ∷ []) n h e = absurd (omega arith)
+word_16 (a ∷ b ∷ []) n h e = omega arith
+word_16 (a ∷ b ∷ x ∷ l) n h e = absurd (omega arith)

@@ -2,17 +2,16 @@
 use mathlib.Core.Path.{◌≡◌, refl, sym, ap, subst, ◌∙◌}
 use mathlib.Core.Bool.{Bool, true, false, not, ◌&&◌, cond}
 use mathlib.Core.List.{List, [], ◌∷◌, ◌++◌}
-use Prim.Native.Nat.{ℕ, zero, suc, ◌+◌, ◌-◌, ◌*◌, ◌%◌, ◌^◌, ◌<◌, ◌≤◌, max}
+use Prim.Native.Nat.{ℕ, zero, suc, ◌+◌, ◌-◌, ◌*◌, ◌^◌, ◌<◌, ◌≤◌, max}
 use native.Mathlib.Omega.{arith}
 use native.Mathlib.Nat.{lt_of_le_of_lt, mul-le-mul_right, pow-le-pow_left}
 use native.Mathlib.Numerals.{add-one}
 use lib.Dec.{T, ltb, ltb→lt, lt→ltb}
 use lib.ListN.{get_or, length, take}
 use lib.Seq.{take-suc}
-use lib.Ieee.{Float, nan, inf, fin, binary32, is_nan, fits, ne, to_bits}
+use lib.Ieee.{Float, nan, inf, fin, binary32, is_nan, fits, to_bits}
 use lib.Ieee.Bits.{is_true, is_false}
 use lib.Ieee.Fits.{and_l, and_r}
-use lib.Ieee.Compare.{differs_from_itself}
 use borrow.Author.Tests.{lt-ltb, le-ltb, ltb-true, ltb-false}
 use Rattle.magnitude.specs.Pattern.{size_of, pattern_units}
 use Rattle.magnitude.proofs.Values.{pattern_mono}

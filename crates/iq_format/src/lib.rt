@@ -3,8 +3,8 @@
 
 mod meter;
 
-ghost use Rattle.std.specs.Prelude.{◌≡◌, [], ◌∷◌, ◌++◌, ◌*◌, ◌/◌, ◌≤◌, min, length, take, drop};
-ghost use Rattle.std.specs.Float.{binary32};
+ghost use Rattle.std.specs.Prelude.{◌≡◌, [], ◌∷◌, ◌++◌, ◌*◌, ◌/◌, ◌≤◌, min, length, take, drop, get_or, ℕ, ◌<◌};
+ghost use Rattle.std.specs.Float.{nan, binary32};
 ghost use Rattle.std.specs.Float.Ieee.{of_bits, to_bits};
 ghost use Rattle.iq_format.specs.Parts.{word_of, width, signed16, part_of, parts_in, part_bytes};
 
@@ -46,29 +46,25 @@ pub fn float(pattern: u32) -> f32
 pub fn pattern(x: f32) -> u32
     ensures { result ≡ to_bits binary32 x }
 {
-    if x.is_nan() { 0x7fc0_0000 } else { f32::to_bits(x) }
+    if x.is_nan() {
+        0x7fc0_0000
+    } else {
+        f32::to_bits(x)
+    }
 }
 
-// Bytes are put together lowest first, and four of them by halves: of these the compiler makes one load.
-#[tactic(auto, unfolding(crate::specs::Parts::word_of))]
-fn half_word(low: u8, high: u8) -> u32
-    ensures { result ≡ word_of (low ∷ high ∷ []) }
+// Bytes come lowest first.
+#[tactic(auto, using(crate::proofs::Parts::word_32), unfolding(crate::specs::Parts::part_of))]
+fn cf32_part(raw: [u8; 4]) -> f32
+    ensures { result ≡ part_of Format.Cf32 (word_of raw) }
 {
-    u32::from(low) + u32::from(high) * 0x100
+    float(u32::from_le_bytes(raw))
 }
 
-#[tactic(auto, unfolding(crate::specs::Parts::word_of))]
-fn word(a: u8, b: u8, c: u8, d: u8) -> u32
-    ensures { result ≡ word_of (a ∷ b ∷ c ∷ d ∷ []) }
+// A word in two's complement.
+fn signed(word: u16) -> i16
+    ensures { result ≡ signed16 word }
 {
-    half_word(a, b) + half_word(c, d) * 0x1_0000
-}
-
-// Two bytes, lowest first, as a number in two's complement.
-fn signed(low: u8, high: u8) -> i16
-    ensures { result ≡ signed16 (word_of (low ∷ high ∷ [])) }
-{
-    let word = half_word(low, high);
     if word < 0x8000 {
         word as i16
     } else {
@@ -76,10 +72,10 @@ fn signed(low: u8, high: u8) -> i16
     }
 }
 
-fn cs16_part(low: u8, high: u8) -> f32
-    ensures { result ≡ part_of Format.Cs16 (word_of (low ∷ high ∷ [])) }
+fn cs16_part(raw: [u8; 2]) -> f32
+    ensures { result ≡ part_of Format.Cs16 (word_of raw) }
 {
-    signed(low, high) as f32 / 32768.0
+    signed(u16::from_le_bytes(raw)) as f32 / 32768.0
 }
 
 fn cu8_part(byte: u8) -> f32
@@ -88,51 +84,33 @@ fn cu8_part(byte: u8) -> f32
     (byte as f32 - 127.5) / 128.0
 }
 
-fn read_cf32(bytes: &[u8], parts: &mut [f32], count: usize)
-    requires { (width Format.Cf32 * count ≤ length bytes.now) × (count ≤ length parts.old) }
-    ensures { parts.new ≡ take count (parts_in Format.Cf32 bytes.now) ++ drop count parts.old }
+// Makes a part of each item, from the start of a buffer on, as many as both have, and tells how many. For each format it is a loop of its
+// own, so that the compiler can work on several parts at once.
+fn read<B: Copy, F: Fn(B) -> f32>(raw: &[B], parts: &mut [f32], part: F) -> usize
+    requires { F.IsAlwaysCallable part }
+    ensures count { result ≡ min (length raw.now) (length parts.old) }
+    ensures long { length parts.new ≡ length parts.old }
+    ensures read { (k : ℕ) (d : B) → k < result → F.post part (get_or raw.now k d) (get_or parts.new k nan) }
+    ensures rest { drop result parts.new ≡ drop result parts.old }
 {
+    let count = parts.len().min(raw.len());
+    // By index, as in `encode`: of what `iter_mut` in a zip and `chunks_exact_mut` lend, nothing is known after the loop.
     for n in 0..count {
-        parts[n] = float(word(
-            bytes[4 * n],
-            bytes[4 * n + 1],
-            bytes[4 * n + 2],
-            bytes[4 * n + 3],
-        ));
+        parts[n] = part(raw[n]);
     }
-}
-
-fn read_cs16(bytes: &[u8], parts: &mut [f32], count: usize)
-    requires { (width Format.Cs16 * count ≤ length bytes.now) × (count ≤ length parts.old) }
-    ensures { parts.new ≡ take count (parts_in Format.Cs16 bytes.now) ++ drop count parts.old }
-{
-    for n in 0..count {
-        parts[n] = cs16_part(bytes[2 * n], bytes[2 * n + 1]);
-    }
-}
-
-fn read_cu8(bytes: &[u8], parts: &mut [f32], count: usize)
-    requires { (width Format.Cu8 * count ≤ length bytes.now) × (count ≤ length parts.old) }
-    ensures { parts.new ≡ take count (parts_in Format.Cu8 bytes.now) ++ drop count parts.old }
-{
-    for n in 0..count {
-        parts[n] = cu8_part(bytes[n]);
-    }
+    count
 }
 
 // Reads parts into the start of a buffer, as many as both have, and tells how many. Left-over bytes are not read.
-// Each format has a loop of its own, so that the compiler can work on several parts at once.
 pub fn decode(format: Format, bytes: &[u8], parts: &mut [f32]) -> usize
     ensures count { result ≡ min (length bytes.now / width format) (length parts.old) }
     ensures parts { parts.new ≡ take result (parts_in format bytes.now) ++ drop result parts.old }
 {
-    let count = parts.len().min(bytes.len() / part_bytes(format));
     match format {
-        Format::Cf32 => read_cf32(bytes, parts, count),
-        Format::Cs16 => read_cs16(bytes, parts, count),
-        Format::Cu8 => read_cu8(bytes, parts, count),
+        Format::Cf32 => read(bytes.as_chunks::<4>().0, parts, cf32_part),
+        Format::Cs16 => read(bytes.as_chunks::<2>().0, parts, cs16_part),
+        Format::Cu8 => read(bytes, parts, cu8_part),
     }
-    count
 }
 
 // Writes parts to the start of a buffer, as many as it has room for, and tells how many.

@@ -1,7 +1,0 @@
--- So many parts are read, and the rest of the buffer is as it was.
-use Rattle.iq_format.specs.declared.Format.TheVariants.{Cu8}
-use Rattle.iq_format.proofs.Parts.{Read}
-use Rattle.iq_format.proofs.read_cu8.Given as goal
-
-abbrev pub invariant-loop-n : goal.invariant-loop-n
-invariant-loop-n l = Read Cu8 l.bytes l.fn.parts l.parts l.n
