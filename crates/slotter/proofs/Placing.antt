@@ -1,23 +1,14 @@
 -- A window with a burst in it, as the code leaves it, and what stands in it: for any window, offset and burst.
-use mathlib.Core.Path.{◌≡◌, sym, ap, ◌∙◌}
-use mathlib.Core.List.{List, ◌++◌, append_assoc, append-nil}
-use Prim.Native.Nat.{ℕ, suc, ◌+◌, ◌-◌, ◌≤◌, ◌<◌}
-use native.Mathlib.Nat.{zero-add}
-use native.Mathlib.Numerals.{add-one}
+use mathlib.Core.Path.{◌≡◌, refl, sym, ap, ◌∙◌}
+use mathlib.Core.List.{List, [], ◌++◌, append_assoc, append-nil}
+use Prim.Native.Nat.{ℕ, ◌+◌, ◌-◌, ◌≤◌}
 use native.Mathlib.Omega.{arith}
 use native.Mathlib.Decide.{dec_le}
-use lib.ListN.{length, take, drop, get_or, set, replicate, length-append, length-replicate}
-use lib.Seq.{paste-suc, take-append-add, take-length, length-take-le}
+use lib.ListN.{length, take, drop, replicate, length-append, length-replicate, take-append-drop}
+use lib.Seq.{take-append-add, take-length, length-take-le}
 use Rattle.std.specs.Prelude.{min}
 use Rattle.std.proofs.lemmas.List.{take-append-le, take-replicate, drop-replicate}
 use Rattle.slotter.specs.Uplink.{placed}
-
--- one element more of s stands in d
-pub one_more : (d s : List ℕ) (i v : ℕ) → i < length d → i < length s → get_or s i 0 ≡ v → set (take i s ++ drop i d) i v ≡ take (i + 1) s ++ drop (i + 1) d
-one_more d s i v h k e =
-    let z : 0 + i ≡ i = zero-add i in
-    let y : 0 + suc i ≡ suc i = zero-add (suc i) in
-    rw (← e, add-one i) (rw (z, y) at (paste-suc d 0 s i 0 (omega arith) k))
 
 abbrev zeros : ℕ → List ℕ
 zeros n = replicate n 0
@@ -62,6 +53,7 @@ module _ (offset : ℕ) (burst : List ℕ) where
             rw (m, take-length burst) (rw e at (take-append-add burst (zeros n) (k - length burst)) ∙ ap (λ (r : List ℕ). burst ++ r) (take-replicate (k - length burst) n 0 (omega arith)))
       ]
 
+  -- zeros, and over them what fits of the burst
   pub left_as : {w c : List ℕ} {start len k : ℕ} (n : ℕ) → w ≡ zeros n → start ≡ min offset n → len ≡ min (length burst) (n - start) → c ≡ take len burst → k ≡ len
       → take start w ++ (c ++ drop k (drop start w)) ≡ placed n offset burst
   unfolding placed
@@ -93,3 +85,9 @@ module _ (offset : ℕ) (burst : List ℕ) where
         let m : length l ≡ offset + length burst = length-append (zeros offset) burst ∙ omega (arith, zeros_length offset) in
         let e : length l + (n - (offset + length burst)) ≡ n = omega (arith, m) in
         rw e at (take-append-add l (zeros n) (n - (offset + length burst)))
+
+-- no burst leaves zeros
+pub placed_nothing : (n offset : ℕ) → placed n offset [] ≡ zeros n
+placed_nothing n offset =
+    sym (left_as offset [] {w = zeros n} {c = []} {start = min offset n} {len = 0} {k = 0} n refl refl (omega arith) refl refl)
+    ∙ take-append-drop (min offset n) (zeros n)
