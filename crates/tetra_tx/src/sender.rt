@@ -1,5 +1,6 @@
 // The slots, sent one behind the other.
 use crate::slot;
+use block_text::LineSlot;
 use dsp_types::{COUNTERS, LAST_SLOT, SampleCount, TdmaTime};
 use modulator::{DqpskMapper, Modulator};
 use streams::Host;
@@ -88,24 +89,21 @@ impl Sender {
     }
 
     // Sends a slot without a burst.
-    pub(crate) fn silence<H: Host>(self, rt: &H) -> Sender {
-        self.send(rt, false, b"")
+    pub(crate) fn silence<H: Host>(&mut self, rt: &H) {
+        *self = self.send(rt, false, b"");
     }
 
     // Sends the slot that a line asks for. Once nothing more is sent no line is judged: where the output failed, the rest of
     // the input is not read, and the last line may be cut.
-    pub(crate) fn line<H: Host>(self, rt: &H, line: &[u8]) -> Sender {
+    pub(crate) fn line<H: Host>(&mut self, rt: &H, line: &[u8]) {
         if !self.is_open {
-            return self;
+            return;
         }
-        let mut next = self;
-        next.lines = self.lines.wrapping_add(1);
-        let slot = slot::of_line(rt, next.lines, line);
-        if slot.is_sent {
-            let bits = slot.bits;
-            next.send(rt, slot.has_bits, &bits)
-        } else {
-            next
+        self.lines = self.lines.wrapping_add(1);
+        match slot::of_line(rt, self.lines, line) {
+            LineSlot::Nothing => {}
+            LineSlot::Empty => self.silence(rt),
+            LineSlot::Bits(bits) => *self = self.send(rt, true, &bits),
         }
     }
 }
