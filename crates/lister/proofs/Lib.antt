@@ -1,5 +1,5 @@
-mod Short
-mod Sign
-mod Judged
-mod Pieces
-mod Example
+pub mod Short
+pub mod Sign
+pub mod Judged
+pub mod Pieces
+pub mod Example

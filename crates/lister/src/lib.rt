@@ -1,16 +1,19 @@
 // The listing of a burst's adjustment bits: from the bytes of an input to those of the output.
 #![tactic(auto)]
 
-ghost use Rattle.std.specs.Prelude.{◌≡◌, ℕ, List, [], ◌∷◌, ◌++◌};
+ghost use Rattle.std.specs.Prelude.{◌≡◌, ℕ, List, [], ◌∷◌, ◌++◌, length};
 ghost use Rattle.io.specs.Counts.{IsPrefixLen};
 ghost use Rattle.text.specs.Text.{text_of, cut};
+ghost use Rattle.dsp_types.specs.Answers.{number_of};
 ghost use Rattle.slotter.specs.Bursts.{builder_reply};
+ghost use Rattle.block_text.specs.BlockText.{type_or_0};
 ghost use Rattle.lister.specs.Listing.{signed_decimal, refusal_line, burst_lines, listed_answer, listing};
 ghost use Rattle.lister.specs.Inputs.{input_bytes};
 
-use block_text::{answer, not_character, type_of};
-use dsp_types::BAD_LENGTH;
-use slotter::{Answer, Burst};
+use arrayvec::ArrayVec;
+use block_text::{BurstType, answer, not_character};
+use dsp_types::Refusal;
+use slotter::Burst;
 use text::Text;
 
 // The text with a whole number in decimal behind it.
@@ -25,12 +28,12 @@ fn with_signed(text: Text, n: i32) -> Text
 }
 
 // What is printed of a refusal.
-fn refused(number: u32) -> Text
-    ensures { IsPrefixLen result.len result.bytes × (text_of result ≡ cut (refusal_line number)) }
+fn refused(refusal: Refusal) -> Text
+    ensures { IsPrefixLen result.len result.bytes × (text_of result ≡ cut (refusal_line (number_of refusal))) }
 {
     Text::new()
         .append(b"refused=")
-        .decimal(number as u64)
+        .decimal(refusal.number() as u64)
         .append(b"\n")
 }
 
@@ -51,15 +54,23 @@ fn built(burst_type: u32, first: i32, last: i32, burst: [u8; 510]) -> Text
         .append(b"\n")
 }
 
-// What is printed of an answer to a letter of that type.
-fn print(burst_type: u32, burst: Burst) -> Text
-    ensures { IsPrefixLen result.len result.bytes × (text_of result ≡ cut (listed_answer burst_type (builder_reply burst))) }
+// What is printed of an answer to a letter that asks for the type with that number.
+fn print(burst_type: u32, answer: Result<Burst, Refusal>) -> Text
+    ensures { IsPrefixLen result.len result.bytes × (text_of result ≡ cut (listed_answer burst_type (builder_reply answer))) }
 {
-    let answer = burst.answer;
-    let bits = burst.bits;
     match answer {
-        Answer::Built(first, last) => built(burst_type, first, last, bits),
-        Answer::Refused(number) => refused(number),
+        Ok(burst) => built(burst_type, burst.first_sum, burst.last_sum, burst.bits),
+        Err(refusal) => refused(refusal),
+    }
+}
+
+// A burst type's number, or 0 for none.
+fn type_number(burst_type: Option<BurstType>) -> u32
+    ensures { result ≡ type_or_0 burst_type }
+{
+    match burst_type {
+        Some(known) => known.number(),
+        None => 0,
     }
 }
 
@@ -67,19 +78,30 @@ fn print(burst_type: u32, burst: Burst) -> Text
 fn listing(input: &[u8]) -> Text
     ensures { IsPrefixLen result.len result.bytes × (text_of result ≡ cut (listing input.now)) }
 {
-    let line = text::trimmed(input, b'\n');
-    if line.len() == 0 {
-        return refused(BAD_LENGTH);
+    let Some((letter, characters)) = text::trimmed(input, b'\n').split_first() else {
+        return refused(Refusal::BadLength);
+    };
+    let burst_type = BurstType::of_letter(*letter);
+    print(type_number(burst_type), answer(burst_type, characters))
+}
+
+// Keeps one byte more where there is no room. 465 bytes are too many for each of the three letters. Behind another letter what
+// counts is the last byte and whether one before it was other than 0 and 1.
+fn replace_last(bytes: &mut [u8], b: u8)
+    requires { length bytes.old ≡ 465 }
+    ensures { (t : List ℕ) → listing (bytes.new ++ t) ≡ listing (bytes.old ++ (b ∷ t)) }
+{
+    let last = bytes[464];
+    if not_character(last) {
+        bytes[1] = last;
     }
-    let burst_type = type_of(line[0]);
-    print(burst_type, answer(burst_type, &line[1..]))
+    bytes[464] = b;
 }
 
 // What is kept of an input that comes in pieces: bytes with the same listing, whatever follows.
-#[derive(Clone, Copy)]
+#[derive(Drop)]
 pub struct Input {
-    pub bytes: [u8; 465],
-    pub len: usize,
+    bytes: ArrayVec<u8, 465>,
 }
 
 impl Input {
@@ -87,49 +109,33 @@ impl Input {
         ensures { input_bytes result ≡ [] }
     {
         Input {
-            bytes: [0; 465],
-            len: 0,
+            bytes: ArrayVec::new(),
         }
     }
 
-    // One byte more. 465 bytes are too many for each of the three letters. Behind another letter what counts is the
-    // last byte and whether one before it was other than 0 and 1.
-    fn push(self, b: u8) -> Input
-        ensures { (t : List ℕ) → listing (input_bytes result ++ t) ≡ listing (input_bytes self ++ (b ∷ t)) }
+    // One byte more.
+    #[tactic(auto, using(crate::proofs::Pieces::one_more, crate::proofs::Pieces::refilled))]
+    fn push(&mut self, b: u8)
+        ensures { (t : List ℕ) → listing (input_bytes self.new ++ t) ≡ listing (input_bytes self.old ++ (b ∷ t)) }
     {
-        let mut bytes = self.bytes;
-        let len = self.len;
-        if len < 465 {
-            bytes[len] = b;
-            return Input {
-                bytes,
-                len: len + 1,
-            };
+        if self.bytes.try_push(b).is_err() {
+            replace_last(self.bytes.as_mut_slice(), b);
         }
-        let last = bytes[464];
-        if not_character(last) {
-            bytes[1] = last;
-        }
-        bytes[464] = b;
-        Input { bytes, len }
     }
 
     // A piece more.
-    pub fn feed(self, piece: &[u8]) -> Input
-        ensures { (t : List ℕ) → listing (input_bytes result ++ t) ≡ listing (input_bytes self ++ (piece.now ++ t)) }
+    pub fn feed(&mut self, piece: &[u8])
+        ensures { (t : List ℕ) → listing (input_bytes self.new ++ t) ≡ listing (input_bytes self.old ++ (piece.now ++ t)) }
     {
-        let mut input = self;
-        for i in 0..piece.len() {
-            input = input.push(piece[i]);
+        for b in piece {
+            self.push(*b);
         }
-        input
     }
 
     // The listing of all the pieces.
-    pub fn listed(self) -> Text
-        ensures { IsPrefixLen result.len result.bytes × (text_of result ≡ listing (input_bytes self)) }
+    pub fn listed(&self) -> Text
+        ensures { IsPrefixLen result.len result.bytes × (text_of result ≡ listing (input_bytes self.now)) }
     {
-        let bytes = self.bytes;
-        listing(text::front(&bytes, self.len))
+        listing(self.bytes.as_slice())
     }
 }

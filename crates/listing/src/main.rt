@@ -5,7 +5,7 @@ use lister::Input;
 use std::io::Read;
 use streams::Host;
 
-fn list<H: Host>(rt: &H, input: Input) {
+fn list<H: Host>(rt: &H, input: &Input) {
     let text = input.listed();
     let bytes = text.bytes;
     let len = text.len;
@@ -33,9 +33,9 @@ fn read_all<H: Host, R: Read>(rt: &H, from: &mut R) {
         if n == 0 {
             break;
         }
-        input = input.feed(&buffer[..n]);
+        input.feed(&buffer[..n]);
     }
-    list(rt, input);
+    list(rt, &input);
 }
 
 fn main(rt: HostRuntime) {

@@ -4,80 +4,59 @@
 mod sender;
 mod slot;
 
+use arrayvec::ArrayVec;
 use sender::Sender;
 use std::io::Read;
 use streams::Host;
 
-type Block = [u8; 65536];
-
 // What is kept of a line (`block_text::push`).
-type Line = [u8; 512];
+type Line = ArrayVec<u8, 512>;
 
-// The sender, and the length of the line that is not yet whole.
-#[derive(Clone, Copy)]
-struct Lines {
-    sender: Sender,
-    len: usize,
-}
-
-// Sends the slot of a line of that length.
-fn send_line<H: Host>(rt: &H, mut sender: Sender, line: &Line, len: usize) -> Sender {
-    sender.line(rt, text::trimmed(text::front(line, len), b'\r'));
-    sender
+fn send_line<H: Host>(rt: &H, sender: &mut Sender, line: &Line) {
+    sender.line(rt, text::trimmed(line.as_slice(), b'\r'));
 }
 
 // Sends the slots of the lines that end in these bytes.
-fn send_lines<H: Host>(rt: &H, lines: Lines, line: &mut Line, bytes: &[u8]) -> Lines {
-    let mut sender = lines.sender;
-    let mut len = lines.len;
-    for i in 0..bytes.len() {
-        let byte = bytes[i];
-        if byte == b'\n' {
-            sender = send_line(rt, sender, &*line, len);
-            len = 0;
+fn send_lines<H: Host>(rt: &H, sender: &mut Sender, line: &mut Line, bytes: &[u8]) {
+    for byte in bytes {
+        if *byte == b'\n' {
+            send_line(rt, sender, &*line);
+            line.clear();
         } else {
-            len = block_text::push(line, len, byte);
+            block_text::push(line, *byte);
         }
     }
-    Lines { sender, len }
-}
-
-// Sends the slot of the last line, where no newline ends it, and one without a burst.
-fn finish<H: Host>(rt: &H, lines: Lines, line: &Line) {
-    let mut sender = lines.sender;
-    if lines.len > 0 {
-        sender = send_line(rt, sender, line, lines.len);
-    }
-    sender.silence(rt);
-}
-
-fn read_block<H: Host, R: Read>(rt: &H, from: &mut R, block: &mut Block) -> Option<usize> {
-    streams::read_or_tell(rt, from, block, b"tetra_tx: the input cannot be read")
 }
 
 // A proved loop has to end, and nothing says that an input does: it counts to a number that no run reaches.
 fn send_all<H: Host, R: Read>(rt: &H, from: &mut R) {
     let mut block = [0u8; 65536];
-    let mut line = [0u8; 512];
-    let mut lines = Lines {
-        sender: Sender::new(),
-        len: 0,
-    };
+    let mut line = Line::new();
+    let mut sender = Sender::new();
     for _ in 0..u64::MAX {
-        if !lines.sender.is_open {
+        if !sender.is_open {
             break;
         }
-        let Some(n) = read_block(rt, from, &mut block) else {
+        let Some(n) = streams::read_or_tell(
+            rt,
+            from,
+            &mut block,
+            b"tetra_tx: the input cannot be read",
+        ) else {
             // What was read of a line before that is not all of it.
-            lines.len = 0;
+            line.clear();
             break;
         };
         if n == 0 {
             break;
         }
-        lines = send_lines(rt, lines, &mut line, text::front(&block, n));
+        send_lines(rt, &mut sender, &mut line, &block[..n]);
     }
-    finish(rt, lines, &line);
+    // No newline ends the last line; a slot without a burst follows it.
+    if !line.is_empty() {
+        send_line(rt, &mut sender, &line);
+    }
+    sender.silence(rt);
 }
 
 fn main(rt: HostRuntime) {

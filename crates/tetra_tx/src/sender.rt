@@ -1,5 +1,6 @@
 // The slots, sent one behind the other.
 use crate::slot;
+use block_text::LineSlot;
 use dsp_types::{COUNTERS, LAST_SLOT, SampleCount, TdmaTime};
 use modulator::{DqpskMapper, Modulator};
 use streams::Host;
@@ -83,10 +84,10 @@ impl Sender {
             return;
         }
         self.lines = self.lines.wrapping_add(1);
-        let slot = slot::of_line(rt, self.lines, line);
-        if slot.is_sent {
-            let bits = slot.bits;
-            self.send(rt, if slot.has_bits { Some(&bits) } else { None });
+        match slot::of_line(rt, self.lines, line) {
+            LineSlot::Nothing => {}
+            LineSlot::Empty => self.silence(rt),
+            LineSlot::Bits(bits) => self.send(rt, Some(&bits)),
         }
     }
 }

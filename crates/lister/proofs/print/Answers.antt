@@ -2,14 +2,15 @@
 use Rattle.std.proofs.Common.{rules, ◌∙◌}
 use mir.Syntax.{w32}
 use mir.ValLaws.{to_z-of_z}
-use Rattle.slotter.specs.Bursts.{builder_reply}
+use Rattle.slotter.specs.Bursts.{builder_reply, refusal}
 use Rattle.lister.specs.Listing.{listed_answer}
 use Rattle.lister.proofs.print.Goals as goal
 
-pub returns-in-Built : goal.returns-in-Built
+pub returns-in-Ok : goal.returns-in-Ok
 unfolding builder_reply listed_answer
-returns-in-Built c = (c.built.ensures.0, c.built.ensures.1 ∙ rw (c.in-Built.is, to_z-of_z w32 c.in-Built.first (search rules), to_z-of_z w32 c.in-Built.last (search rules)))
+returns-in-Ok c =
+    (c.built.ensures.0, c.built.ensures.1 ∙ rw (c.in-Ok.is, to_z-of_z w32 c.in-Ok.burst.first_sum (search rules), to_z-of_z w32 c.in-Ok.burst.last_sum (search rules)))
 
-pub returns-in-Refused : goal.returns-in-Refused
-unfolding builder_reply listed_answer
-returns-in-Refused c = (c.refused.ensures.0, c.refused.ensures.1 ∙ rw c.in-Refused.is)
+pub returns-in-Err : goal.returns-in-Err
+unfolding builder_reply refusal listed_answer
+returns-in-Err c = (c.refused.ensures.0, c.refused.ensures.1 ∙ rw c.in-Err.is)

@@ -4,5 +4,5 @@ use Rattle.lister.specs.Listing.{listing}
 use Rattle.lister.specs.Inputs.{input_bytes}
 use Rattle.lister.proofs.Input.feed.Given as goal
 
-abbrev pub invariant-loop-i : goal.invariant-loop-i
-invariant-loop-i l = (t : List ℕ) → listing (input_bytes l.input ++ (drop l.i l.piece ++ t)) ≡ listing (input_bytes l.fn.self ++ (l.piece ++ t))
+abbrev pub invariant-loop-b : goal.invariant-loop-b
+invariant-loop-b l = (t : List ℕ) → listing (input_bytes l.self ++ (drop l.b-index l.piece ++ t)) ≡ listing (input_bytes l.initial.self ++ (l.piece ++ t))
