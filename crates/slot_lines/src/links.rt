@@ -5,10 +5,10 @@ ghost use Rattle.receiver.specs.Feed.{interleaved};
 ghost use Rattle.receiver.specs.View.{receiver_of};
 ghost use Rattle.slot_lines.specs.Links.{follow_if, begins_if, shown_of, rest_printed, lead_step, catch_up_step, both_step, both_of, both_made};
 
-use crate::listen::{Style, hear};
+use crate::listen::hear;
 use dsp_types::{SampleCount, least};
 use receiver::State;
-use slot_text::{Form, Link};
+use slot_text::{Form, Link, Style};
 use text::Text;
 
 #[derive(Clone, Copy)]

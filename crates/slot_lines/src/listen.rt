@@ -9,16 +9,8 @@ ghost use Rattle.slot_lines.specs.Blocks.{take_next, taken_line, printed, stretc
 use dsp_types::{ACCEPTED, SampleCount};
 use receiver::{State, Stop};
 use slot_receiver::TakeAnswer;
-use slot_text::{Form, Link, slot_line};
+use slot_text::{Style, slot_line};
 use text::Text;
-
-// How slots are printed.
-#[derive(Clone, Copy)]
-pub struct Style {
-    pub form: Form,
-    pub has_bits: bool,
-    pub link: Link,
-}
 
 // How many samples are done with, the refusal of the last of them (0 for none), whether it handed a slot over, the slot's
 // line, and the receiver after them.
@@ -56,14 +48,10 @@ fn take_line(taken: usize, state: State, style: Style) -> Heard
     let given = state.take_demodulated_slot(&mut slot, &mut subslot1, &mut subslot2);
     let answer = given.answer;
     let left = given.state;
-    let form = style.form;
-    let link = style.link;
     match answer {
         TakeAnswer::Slot(handed) => {
             let line = slot_line(
-                form,
-                style.has_bits,
-                link,
+                style,
                 handed,
                 text::front(&slot, handed.full.burst_len),
                 text::front(&subslot1, handed.subslot1.burst_len),
