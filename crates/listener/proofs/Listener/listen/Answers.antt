@@ -9,11 +9,11 @@ pub returns : goal.returns
 unfolding signal_of
 returns c =
     let a = c.args in
-    let l = a.self in
-    let f = c.sample-filtered in
+    let l = a.self.now in
+    let f = c.sample-out in
     heard
     (line_of l.matched_filter)
-    (line_of f.result.line)
+    (line_of f.new.self)
     a.re.now
     a.im.now
     a.abs.now
@@ -25,13 +25,13 @@ returns c =
     _
     _
     a.input
-    f.result.out
+    f.result
     c.magnitude.result
     f.ensures.line
     f.ensures.out
     c.magnitude.ensures
-    c.store.ensures.held
-    c.store-2.ensures.held
-    c.store-3.ensures.held
-    (c.store.ensures.index ∙ sym c.store-3.ensures.index)
-    (c.store-2.ensures.index ∙ sym c.store-3.ensures.index)
+    c.store-self.ensures.held
+    c.store-self-2.ensures.held
+    c.store-self-3.ensures.held
+    (c.store-self.ensures.index ∙ sym c.store-self-3.ensures.index)
+    (c.store-self-2.ensures.index ∙ sym c.store-self-3.ensures.index)

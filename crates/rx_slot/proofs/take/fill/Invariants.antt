@@ -6,6 +6,3 @@ use Rattle.rx_slot.proofs.take.fill.Given as goal
 
 abbrev pub invariant-loop-i : goal.invariant-loop-i
 invariant-loop-i l = l.out ≡ padded l.i (map bit l.bits) ++ drop l.i l.initial.out
-
-abbrev pub invariant-loop-i-2 : goal.invariant-loop-i-2
-invariant-loop-i-2 l = l.out ≡ padded l.i (map bit l.bits) ++ drop l.i l.initial.out

@@ -1,35 +1,40 @@
 -- By the other's mode.
-use Rattle.std.proofs.Common.{rules}
+use Rattle.std.proofs.Common.{◌≡◌, sym, ap, ◌∙◌, inl, inr}
+use Rattle.slot_receiver.specs.declared.Mode.{Mode}
+use Rattle.slot_receiver.specs.declared.Mode.TheVariants.{Idle, DlUnsynchronized, Dl, Ul}
 use Rattle.slot_receiver.specs.Receiver.{with_mode, with_clock}
 use Rattle.slot_receiver.specs.View.{mode_of, mode_number, mode_following, receiver_from}
-use Rattle.slot_receiver.proofs.Views.{mode_search, mode_downlink}
+use Rattle.slot_receiver.proofs.Views.{mode_stored}
 use Rattle.slot_calls.proofs.Taking.{follows_search, follows_lock, follows_none, mode_none}
 use Rattle.slot_calls.proofs.follow.follow.Goals as goal
 
-pub returns-in-1-clause-receiver : goal.returns-in-1-clause-receiver
-unfolding receiver_from with_mode mode_of
-returns-in-1-clause-receiver c = λ next next₂ s s₂.
+pub returns-in-Idle-clause-receiver : goal.returns-in-Idle-clause-receiver
+returns-in-Idle-clause-receiver c = λ next next₂ s s₂.
     let a = c.args in
-    follows_search (receiver_from a.slots next s) (receiver_from a.demod next₂ s₂) (mode_of a.demod.mode) (mode_search a.demod.mode c.in-1.is)
+    follows_none (receiver_from a.slots.now next s) (receiver_from a.demod.now next₂ s₂) (mode_of a.demod.now.mode) (rw c.mode.ensures at c.in-Idle.is)
 
-pub returns-in-1-clause-mode : goal.returns-in-1-clause-mode
-unfolding mode_number mode_following
-returns-in-1-clause-mode c = rw (mode_search c.args.demod.mode c.in-1.is)
+pub returns-in-Idle-clause-mode : goal.returns-in-Idle-clause-mode
+returns-in-Idle-clause-mode c = mode_none (mode_of c.args.demod.now.mode) c.args.slots.now.mode (rw c.mode.ensures at c.in-Idle.is)
 
-pub returns-in-2-clause-receiver : goal.returns-in-2-clause-receiver
-unfolding receiver_from with_mode with_clock mode_of
-returns-in-2-clause-receiver c = λ next next₂ s s₂.
+pub returns-in-DlUnsynchronized-clause-receiver : goal.returns-in-DlUnsynchronized-clause-receiver
+unfolding receiver_from with_mode
+returns-in-DlUnsynchronized-clause-receiver c = λ next next₂ s s₂.
     let a = c.args in
-    follows_lock (receiver_from a.slots next s) (receiver_from a.demod next₂ s₂) (mode_of a.demod.mode) c.slot_when-slot.result.0 (mode_downlink a.demod.mode c.in-2.is) c.slot_when-slot.ensures
+    rw (c.number-slots.ensures, mode_stored Idle)
+    (follows_search (receiver_from a.slots.now next s) (receiver_from a.demod.now next₂ s₂) (mode_of a.demod.now.mode) (sym c.mode.ensures ∙ c.in-DlUnsynchronized.is))
 
-pub returns-in-2-clause-mode : goal.returns-in-2-clause-mode
-unfolding mode_number mode_following
-returns-in-2-clause-mode c = rw (mode_downlink c.args.demod.mode c.in-2.is)
+pub returns-in-DlUnsynchronized-clause-mode : goal.returns-in-DlUnsynchronized-clause-mode
+unfolding mode_following
+returns-in-DlUnsynchronized-clause-mode c = rw (← c.mode.ensures, c.in-DlUnsynchronized.is, c.number-slots.ensures)
 
-pub returns-in_default-clause-receiver : goal.returns-in_default-clause-receiver
-returns-in_default-clause-receiver c = λ next next₂ s s₂.
+pub returns-in-Dl-clause-receiver : goal.returns-in-Dl-clause-receiver
+unfolding receiver_from with_mode with_clock
+returns-in-Dl-clause-receiver c = λ next next₂ s s₂.
     let a = c.args in
-    follows_none (receiver_from a.slots next s) (receiver_from a.demod next₂ s₂) a.demod.mode (search rules) (search rules)
+    let n = rw c.mode-slots.ensures at c.slot_when-slots.ensures in
+    rw (c.number-slots-in-Dl.ensures, mode_stored Ul)
+    (follows_lock (receiver_from a.slots.now next s) (receiver_from a.demod.now next₂ s₂) (mode_of a.demod.now.mode) c.slot_when-slots.result.0 (sym c.mode.ensures ∙ c.in-Dl.is) n)
 
-pub returns-in_default-clause-mode : goal.returns-in_default-clause-mode
-returns-in_default-clause-mode c = mode_none c.args.demod.mode c.args.slots.mode (search rules) (search rules)
+pub returns-in-Dl-clause-mode : goal.returns-in-Dl-clause-mode
+unfolding mode_following
+returns-in-Dl-clause-mode c = rw (← c.mode.ensures, c.in-Dl.is, c.number-slots-in-Dl.ensures)

@@ -1,4 +1,4 @@
--- By the test of its own mode: a refused order changes nothing, and an accepted one is followed.
+-- By the receiver's own mode: a refused order changes nothing, and an accepted one is followed.
 use Rattle.std.proofs.Common.{◌≡◌, sym, ap, ◌∙◌, [], ℤ, arith}
 use Rattle.listener.specs.Signal.{Signal}
 use Rattle.slot_receiver.specs.Receiver.{Receiver}
@@ -7,32 +7,32 @@ use Rattle.slot_receiver.specs.View.{receiver_from}
 use Rattle.slot_receiver.proofs.Outcomes.{kept, unless_refused, unless_accepted}
 use Rattle.slot_calls.proofs.Taking.{follow_refused, follow_accepted}
 use Rattle.slot_calls.proofs.follow.sync_to_demodulator.Goals as goal
-use Rattle.slot_calls.proofs.follow.sync_to_demodulator.Goals.{Then-mode, Else-mode}
+use Rattle.slot_calls.proofs.follow.sync_to_demodulator.Goals.{In-DlUnsynchronized, In-Idle}
 
-refused : (c : Then-mode) (next : ℤ) (s : Signal) (other : Receiver) → follow_outcome (receiver_from c.args.slots next s) other ≡ kept 13 (receiver_from c.args.slots next s) []
+refused : (c : In-DlUnsynchronized) (next : ℤ) (s : Signal) (other : Receiver) → follow_outcome (receiver_from c.args.slots.now next s) other ≡ kept 13 (receiver_from c.args.slots.now next s) []
 unfolding follow_outcome receiver_from
-refused c next s other = unless_refused _ _ _ (follow_refused c.args.slots.mode c.if-mode.true) (λ e. omega (arith, e))
+refused c next s other = unless_refused _ _ _ (follow_refused _ (rw c.mode.ensures at c.in-DlUnsynchronized.is)) (λ e. omega (arith, e))
 
-accepted : (c : Else-mode) (next : ℤ) (s : Signal) (other : Receiver) → follow_outcome (receiver_from c.args.slots next s) other ≡ followed (receiver_from c.args.slots next s) other
+accepted : (c : In-Idle) (next : ℤ) (s : Signal) (other : Receiver) → follow_outcome (receiver_from c.args.slots.now next s) other ≡ followed (receiver_from c.args.slots.now next s) other
 unfolding follow_outcome receiver_from
-accepted c next s other = unless_accepted _ _ _ (sym (follow_accepted c.args.slots.mode c.if-mode.false))
+accepted c next s other = unless_accepted _ _ _ (follow_accepted _ (rw c.mode.ensures at c.in-Idle.is))
 
-pub returns-then-mode-clause-answer : goal.returns-then-mode-clause-answer
+pub returns-in-DlUnsynchronized-clause-answer : goal.returns-in-DlUnsynchronized-clause-answer
 unfolding reply_of
-returns-then-mode-clause-answer c = λ next next₂ s s₂.
-    sym (ap (λ (o : Outcome). o.reply) (refused (goal.at.returns-then-mode-clause-answer c).Then-mode next s (receiver_from c.args.demod next₂ s₂)))
+returns-in-DlUnsynchronized-clause-answer c = λ next next₂ s s₂.
+    sym (ap (λ (o : Outcome). o.reply) (refused (goal.at.returns-in-DlUnsynchronized-clause-answer c).In-DlUnsynchronized next s (receiver_from c.args.demod.now next₂ s₂)))
 
-pub returns-then-mode-clause-receiver : goal.returns-then-mode-clause-receiver
-returns-then-mode-clause-receiver c = λ next next₂ s s₂.
-    sym (ap (λ (o : Outcome). o.receiver) (refused (goal.at.returns-then-mode-clause-receiver c).Then-mode next s (receiver_from c.args.demod next₂ s₂)))
+pub returns-in-DlUnsynchronized-clause-receiver : goal.returns-in-DlUnsynchronized-clause-receiver
+returns-in-DlUnsynchronized-clause-receiver c = λ next next₂ s s₂.
+    sym (ap (λ (o : Outcome). o.receiver) (refused (goal.at.returns-in-DlUnsynchronized-clause-receiver c).In-DlUnsynchronized next s (receiver_from c.args.demod.now next₂ s₂)))
 
-pub returns-clause-answer : goal.returns-clause-answer
+pub returns-in-Idle-clause-answer : goal.returns-in-Idle-clause-answer
 unfolding reply_of followed
-returns-clause-answer c = λ next next₂ s s₂.
-    sym (ap (λ (o : Outcome). o.reply) (accepted (goal.at.returns-clause-answer c).Else-mode next s (receiver_from c.args.demod next₂ s₂)))
+returns-in-Idle-clause-answer c = λ next next₂ s s₂.
+    sym (ap (λ (o : Outcome). o.reply) (accepted (goal.at.returns-in-Idle-clause-answer c).In-Idle next s (receiver_from c.args.demod.now next₂ s₂)))
 
-pub returns-clause-receiver : goal.returns-clause-receiver
+pub returns-in-Idle-clause-receiver : goal.returns-in-Idle-clause-receiver
 unfolding followed receiver_from
-returns-clause-receiver c = λ next next₂ s s₂.
+returns-in-Idle-clause-receiver c = λ next next₂ s s₂.
     c.follow.ensures.receiver next next₂ s s₂
-    ∙ sym (ap (λ (o : Outcome). o.receiver) (accepted (goal.at.returns-clause-receiver c).Else-mode next s (receiver_from c.args.demod next₂ s₂)))
+    ∙ sym (ap (λ (o : Outcome). o.receiver) (accepted (goal.at.returns-in-Idle-clause-receiver c).In-Idle next s (receiver_from c.args.demod.now next₂ s₂)))

@@ -12,8 +12,8 @@ added n s k e h f =
 
 pub set_slot-requires : goal.set_slot-requires
 set_slot-requires c =
-    (c.requires.0, rw (added _ _ c.args.count c.add_timeslots-slot.ensures c.requires.1 c.ranges.count) (slot_below _))
+    (c.requires.0, rw (added _ _ c.args.count c.add_timeslots.ensures c.requires.1 c.ranges.count) (slot_below _))
 
 pub returns : goal.returns
 unfolding add_slots
-returns c = λ next s. rw (c.set_slot.ensures next s, added _ _ c.args.count c.add_timeslots-slot.ensures c.requires.1 c.ranges.count)
+returns c = λ next s. rw (c.set_slot.ensures next s, added _ _ c.args.count c.add_timeslots.ensures c.requires.1 c.ranges.count)

@@ -11,7 +11,7 @@ pub schedule-requires : goal.schedule-requires
 unfolding receiver_from
 schedule-requires c =
     let a = c.args in
-    let r = receiver_from a.self (pos 0) (signal_from [] a.re.now a.im.now a.abs.now a.index) in
+    let r = receiver_from a.self.now (pos 0) (signal_from [] a.re.now a.im.now a.abs.now a.index) in
     subst (λ (q : Receiver). Scheduled q.clock) (sym (c.process_past_samples.ensures (pos 0) [])) (processed_scheduled r a.counter.0 c.requires)
 
 pub returns : goal.returns

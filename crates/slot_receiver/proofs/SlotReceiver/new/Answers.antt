@@ -11,5 +11,5 @@ pub returns-clause-receiver : goal.returns-clause-receiver
 unfolding receiver_from new set_slot no_slot
 returns-clause-receiver c =
     let b = no_stored c.no_burst-empty.ensures in
-    let m : mode_of c.number-mode.result ≡ c.args.initial_mode = ap mode_of c.number-mode.ensures ∙ mode_stored c.args.initial_mode in
-    rw (c.ready_time-ready.ensures, c.default-first.ensures, m, b 510 (replicate 510 0), b 254 (replicate 510 0))
+    let m : mode_of c.number.result ≡ c.args.initial_mode = ap mode_of c.number.ensures ∙ mode_stored c.args.initial_mode in
+    rw (c.ready_time.ensures, c.default-first.ensures, m, b 510 (replicate 510 0), b 254 (replicate 510 0))

@@ -5,4 +5,4 @@ use Rattle.slot_receiver.proofs.SlotReceiver.set_slot.Goals as goal
 
 pub returns : goal.returns
 unfolding receiver_from with_clock set_slot
-returns c = λ next s. rw c.ready_time-ready.ensures
+returns c = λ next s. rw (c.ready_time-self.ensures, c.mode.ensures)

@@ -10,8 +10,8 @@ returns-then-is_far c =
     let h : far c.args.t ≡ true = rw (to_z-of_z c.ranges.t) at (sym c.is_far.ensures ∙ c.if-is_far.true) in
     λ next s. rw (c.add_slots.ensures next s, h, to_z-of_z (record { sfits = c.slots_to_skip.type_inv }), c.slots_to_skip.ensures, to_z-of_z c.ranges.t)
 
-pub returns : goal.returns
+pub returns-else-is_far : goal.returns-else-is_far
 unfolding skip_if
-returns c =
+returns-else-is_far c =
     let h : far c.args.t ≡ false = rw (to_z-of_z c.ranges.t) at (sym c.is_far.ensures ∙ c.if-is_far.false) in
     λ next s. rw h
