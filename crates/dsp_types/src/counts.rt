@@ -1,7 +1,5 @@
 // Sums, differences and tests of sample counts. Where 64 bits do not hold a sum, it is the nearest number that they hold.
 ghost use Rattle.std.specs.Prelude.{◌≡◌, ◌+ℤ◌, ◌-ℤ◌};
-ghost use Rattle.std.specs.Int.Signed.{lt_z};
-ghost use Rattle.dsp_types.specs.Ints.{eq_z};
 ghost use Rattle.dsp_types.specs.Refusals.{out_of_count};
 ghost use Rattle.dsp_types.specs.Times.{fitted};
 
@@ -30,18 +28,6 @@ impl SampleCount {
         ensures { result ≡ fitted (self.0 -ℤ earlier.0) }
     {
         self.0.saturating_sub(earlier.0)
-    }
-
-    pub fn is_before(self, other: SampleCount) -> bool
-        ensures { result ≡ lt_z self.0 other.0 }
-    {
-        self < other
-    }
-
-    pub fn is_same(self, other: SampleCount) -> bool
-        ensures { result ≡ eq_z self.0 other.0 }
-    {
-        self == other
     }
 
     // Whether it is no sample's counter: refusal 2.

@@ -1,19 +1,15 @@
-// What every stage shares: a complex sample, a sample count, a slot number, the smaller of two lengths, and the check of bit bytes.
+// What every stage shares: a complex sample, a sample count, a slot number, refusals, and the check of bit bytes.
 #![tactic(auto)]
 
 mod counts;
 mod refusals;
 
-ghost use Rattle.std.specs.Prelude.{◌≡◌, ◌-◌, ◌%◌, min, pos, ◌+ℤ◌};
+ghost use Rattle.std.specs.Prelude.{◌≡◌, ◌%◌, pos, ◌+ℤ◌};
 ghost use Rattle.std.specs.Int.Signed.{mag};
 ghost use Rattle.dsp_types.specs.Times.{slot_of, slots, div_euclid};
 ghost use Rattle.dsp_types.specs.Refusals.{not_bits};
 
-pub use refusals::{
-    ACCEPTED, BAD_BIT, BAD_COUNTER, BAD_KIND, BAD_LENGTH, BAD_SAMPLE, BAD_SLOT, BAD_TRAINING,
-    COUNTERS, LAST_COUNTER, LAST_SLOT, NEED_MORE_DATA, NO_SLOT, NOT_FOLLOWING, PAST_COUNTER,
-    Refusal, SLOTS, answer_number,
-};
+pub use refusals::{COUNTERS, LAST_COUNTER, LAST_SLOT, Refusal, SLOTS, answer_number};
 
 // Made by the radio and by the filter, read by filter, timing and decisions.
 #[derive(Clone, Copy)]
@@ -74,20 +70,6 @@ pub fn div_euclid(n: i64, d: u32) -> i64
     ensures { result ≡ div_euclid n d }
 {
     n.div_euclid(i64::from(d.max(1)))
-}
-
-// The smaller of two lengths.
-pub fn least(a: usize, b: usize) -> usize
-    ensures { result ≡ min a b }
-{
-    if a < b { a } else { b }
-}
-
-// a − b, or 0 where b is larger.
-pub fn saturating_sub(a: usize, b: usize) -> usize
-    ensures { result ≡ a - b }
-{
-    if b < a { a - b } else { 0 }
 }
 
 // Whether some byte is neither 0 nor 1. It looks at every byte, so that the compiler can take many at once.
