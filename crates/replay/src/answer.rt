@@ -1,5 +1,5 @@
 // The lines that answer calls.
-use dsp_types::ComplexSample;
+use dsp_types::{ComplexSample, Refusal};
 use text::Text;
 
 pub(crate) fn ok() -> Text {
@@ -16,15 +16,14 @@ pub(crate) fn with_number(text: Text, number: u64) -> Text {
 }
 
 pub(crate) fn refused(number: u32) -> Text {
-    with_number(Text::new().append(b"refused"), number as u64).append(b"\n")
+    with_number(Text::new().append(b"refused"), u64::from(number)).append(b"\n")
 }
 
-// The answer of a builder, of which there are a refusal or a burst's bits.
-pub(crate) fn burst(refusal: u32, bits: &[u8]) -> Text {
-    if refusal == 0 {
-        Text::new().append(b"burst ").bits(bits).append(b"\n")
-    } else {
-        refused(refusal)
+// The answer of a builder.
+pub(crate) fn burst<const N: usize>(answer: Result<[u8; N], Refusal>) -> Text {
+    match answer {
+        Ok(bits) => Text::new().append(b"burst ").bits(&bits).append(b"\n"),
+        Err(refusal) => refused(refusal.number()),
     }
 }
 

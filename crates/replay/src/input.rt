@@ -1,4 +1,5 @@
 // The input, read in blocks and handed out line by line.
+use crate::field::behind;
 use std::io::Read;
 use streams::Host;
 
@@ -20,7 +21,7 @@ pub struct Line {
     pub input: Input,
 }
 
-// The part of a line that one block has. The line goes on in the next block unless it is whole.
+// The part of a line that one block has, and the length of the line up to there, which the line's block may not hold. The line goes on in the next block unless it is whole.
 #[derive(Clone, Copy)]
 struct Part {
     len: usize,
@@ -38,52 +39,32 @@ fn read_block<H: Host, R: Read>(rt: &H, from: &mut R, block: &mut Block) -> Opti
     streams::read_or_tell(rt, from, block, b"replay: the input cannot be read")
 }
 
-fn byte_at(block: &Block, at: usize) -> u8 {
-    if at < 65536 { block[at] } else { 0 }
-}
-
-// Adds a byte to a line of that length. A length of 65,537 stands for every longer line.
-pub(crate) fn add(line: &mut Block, len: usize, byte: u8) -> usize {
-    if len < 65536 {
-        line[len] = byte;
-        len + 1
-    } else {
-        65537
+// Puts a byte at a place of a block, where it has that.
+pub(crate) fn put_byte(block: &mut Block, at: usize, byte: u8) {
+    if let Some(place) = block.get_mut(at) {
+        *place = byte;
     }
 }
 
 // Puts bytes into a block from a place on, each less the same number.
 pub(crate) fn put(block: &mut Block, at: usize, bytes: &[u8], less: u8) {
-    for i in 0..bytes.len() {
-        let byte = bytes[i].wrapping_sub(less);
-        add(block, at.wrapping_add(i), byte);
+    for (i, byte) in bytes.iter().enumerate() {
+        put_byte(block, at.wrapping_add(i), byte.wrapping_sub(less));
     }
 }
 
 // Moves the block's bytes to a line of that length, up to the end of the block or of the line.
 fn move_part(block: &Block, input: Input, line: &mut Block, len: usize) -> Part {
-    let end = input.len;
-    let mut n = len;
-    for at in input.used..end {
-        let byte = byte_at(block, at);
-        if byte == b'\n' {
-            return Part {
-                len: n,
-                is_whole: true,
-                input: Input {
-                    len: end,
-                    used: at + 1,
-                },
-            };
-        }
-        n = add(line, n, byte);
-    }
+    let rest = behind(text::front(block, input.len), input.used);
+    let end = rest.iter().position(|byte| *byte == b'\n');
+    let moved = text::front(rest, end.unwrap_or(rest.len()));
+    put(line, len, moved, 0);
     Part {
-        len: n,
-        is_whole: false,
+        len: len.saturating_add(moved.len()),
+        is_whole: end.is_some(),
         input: Input {
-            len: end,
-            used: end,
+            len: input.len,
+            used: input.used.saturating_add(moved.len()).saturating_add(1),
         },
     }
 }

@@ -102,10 +102,7 @@ fn with_burst(text: Text, told: RxBurst, lent: &Lent) -> Text {
 
 // Whether the bytes behind a burst in a slice of that length are 0.
 fn is_padded(told: RxBurst, lent: &Lent, len: usize) -> bool {
-    is_all(
-        block_text::behind(text::front(lent, len), told.burst_len),
-        0,
-    )
+    is_all(field::behind(text::front(lent, len), told.burst_len), 0)
 }
 
 // The text with the slot's number, and the counter behind it where it is told.

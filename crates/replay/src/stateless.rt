@@ -1,32 +1,26 @@
 // The calls that work on nothing that is kept: burst builders, the logger's call, magnitude and quarter turns.
-use crate::answer::{error, float, refused, with_number};
+use crate::answer::{burst, error, float, refused, with_number};
 use crate::field::{
     LARGEST_U32, bits, count, digits, has_digits, is_sample, letter, narrow, number, sample,
 };
 use crate::input::Block;
-use crate::{answer, uplink};
+use crate::uplink;
+use block_text::BurstType;
+use dsp_types::Refusal;
 use magnitude::magnitude;
 use slotter::{Burst, build_ndb, build_sdb};
 use text::Text;
 use timing::quarter_turns;
 
-fn built(burst: Burst) -> Text {
-    let bits = burst.bits;
-    answer::burst(burst.number(), &bits)
-}
-
-fn is_letter(byte: u8) -> bool {
-    match byte {
-        b'A'..=b'Z' | b'a'..=b'z' => true,
-        _ => false,
-    }
+fn built(answer: Result<Burst, Refusal>) -> Text {
+    burst(answer.map(|built| built.bits))
 }
 
 // A burst from its letter and its blocks' characters, joined.
 fn build_joined(line: &[u8]) -> Text {
     let kind = letter(line, 1);
-    if is_letter(kind) & has_digits(line, 2) {
-        built(block_text::answer(block_text::type_of(kind), digits(line, 2)))
+    if kind.is_ascii_alphabetic() && has_digits(line, 2) {
+        built(block_text::answer(BurstType::of_letter(kind), digits(line, 2)))
     } else {
         error()
     }
@@ -34,7 +28,7 @@ fn build_joined(line: &[u8]) -> Text {
 
 // A burst from three slices.
 fn build(line: &[u8], values: &Block) -> Text {
-    if !(has_digits(line, 2) & has_digits(line, 3) & has_digits(line, 4)) {
+    if !(has_digits(line, 2) && has_digits(line, 3) && has_digits(line, 4)) {
         return error();
     }
     let blk1 = bits(line, values, 2);
@@ -52,27 +46,26 @@ fn build(line: &[u8], values: &Block) -> Text {
 }
 
 // The logger's call with so many answer bytes, of which there are enough.
-fn judge_with(kind: u32, bits: &[u8], answer: &mut [u8], len: usize) -> u32 {
+fn judge_with(kind: u32, bits: &[u8], answer: &mut [u8], len: usize) -> Result<(), Refusal> {
     if len <= answer.len() {
-        logger::judge(kind, bits, &mut answer[0..len])
+        logger::judge(kind, bits, &mut answer[..len])
     } else {
-        3
+        Err(Refusal::BadLength)
     }
 }
 
 // The number of two bytes, the low one first.
 fn number_of(low: u8, high: u8) -> u64 {
-    low as u64 + 256 * (high as u64)
+    u64::from(u16::from_le_bytes([low, high]))
 }
 
 fn judged(kind: u32, bits: &[u8], len: usize) -> Text {
     let mut answer = [0u8; 4096];
-    let refusal = judge_with(kind, bits, &mut answer, len);
-    if refusal != 0 {
-        return refused(refusal);
+    if let Err(refusal) = judge_with(kind, bits, &mut answer, len) {
+        return refused(refusal.number());
     }
-    let burst = with_number(Text::new().append(b"judged"), number_of(answer[0], 0));
-    let errors = with_number(burst, number_of(answer[1], 0));
+    let burst = with_number(Text::new().append(b"judged"), u64::from(answer[0]));
+    let errors = with_number(burst, u64::from(answer[1]));
     let place = with_number(errors, number_of(answer[2], answer[3]));
     with_number(place, number_of(answer[4], answer[5])).append(b"\n")
 }
@@ -81,7 +74,7 @@ fn judged(kind: u32, bits: &[u8], len: usize) -> Text {
 fn judge(line: &[u8], values: &Block) -> Text {
     let kind = number(line, 1);
     let len = number(line, 2);
-    if (kind <= LARGEST_U32) & (len <= 4096) & has_digits(line, 3) {
+    if kind <= LARGEST_U32 && len <= 4096 && has_digits(line, 3) {
         judged(narrow(kind), bits(line, values, 3), len as usize)
     } else {
         error()

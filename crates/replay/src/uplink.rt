@@ -10,30 +10,24 @@ fn put_blocks(line: &[u8], values: &mut Block, k: usize) -> bool {
     let next = k.wrapping_add(1);
     put_bytes(line, values, k);
     put_bytes(line, values, next);
-    has_bytes(line, k) & has_bytes(line, next)
+    has_bytes(line, k) && has_bytes(line, next)
 }
 
 pub(crate) fn build_normal(line: &[u8], values: &mut Block) -> Text {
     let train = number(line, 1);
-    if !(put_blocks(line, values, 2) & (train <= LARGEST_U32)) {
+    if !(put_blocks(line, values, 2) && train <= LARGEST_U32) {
         return error();
     }
-    let told = build_nub(
+    burst(build_nub(
         narrow(train),
         bytes(line, &*values, 2),
         bytes(line, &*values, 3),
-    );
-    let answer = told.answer;
-    let bits = told.bits;
-    burst(answer.number(), &bits)
+    ))
 }
 
 pub(crate) fn build_control(line: &[u8], values: &mut Block) -> Text {
     if !put_blocks(line, values, 1) {
         return error();
     }
-    let told = build_cub(bytes(line, &*values, 1), bytes(line, &*values, 2));
-    let answer = told.answer;
-    let bits = told.bits;
-    burst(answer.number(), &bits)
+    burst(build_cub(bytes(line, &*values, 1), bytes(line, &*values, 2)))
 }
