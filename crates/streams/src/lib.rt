@@ -17,7 +17,8 @@ use std::io::{ErrorKind, Read, Write};
 use std::time::Clock;
 use wait::is_again;
 
-// Answers as a read of std does.
+// Answers as a read of std does. (One function for this and write_some, with a closure that reads or writes, was tried: what the
+// closure leaves behind its references, called from a function that keeps it, did not reach the proof.)
 pub fn read<C: Clock, R: Read>(rt: &C, from: &mut R, buf: &mut [u8]) -> io::Result<usize>
     ensures bound { ReadsAtMost result buf.new }
     ensures bytes { ReadConsumes (R.remaining from.old) (R.remaining from.new) result buf.new }

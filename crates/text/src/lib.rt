@@ -21,6 +21,7 @@ pub fn front(bytes: &[u8], len: usize) -> &[u8]
 }
 
 // The bytes without one closing byte c.
+#[tactic(auto, using(crate::proofs::Trimming::trim_last, crate::proofs::Trimming::trim_other, crate::proofs::Trimming::trim_none))]
 pub fn trimmed(bytes: &[u8], c: u8) -> &[u8]
     ensures { result.now ≡ trimmed c bytes.now }
 {
