@@ -1,9 +1,8 @@
 -- By the other's mode.
-use Rattle.std.proofs.Common.{◌≡◌, sym, ap, ◌∙◌, inl, inr}
-use Rattle.slot_receiver.specs.declared.Mode.{Mode}
-use Rattle.slot_receiver.specs.declared.Mode.TheVariants.{Idle, DlUnsynchronized, Dl, Ul}
+use Rattle.std.proofs.Common.{sym, ◌∙◌}
+use Rattle.slot_receiver.specs.declared.Mode.TheVariants.{Idle, Ul}
 use Rattle.slot_receiver.specs.Receiver.{with_mode, with_clock}
-use Rattle.slot_receiver.specs.View.{mode_of, mode_number, mode_following, receiver_from}
+use Rattle.slot_receiver.specs.View.{mode_of, mode_following, receiver_from}
 use Rattle.slot_receiver.proofs.Views.{mode_stored}
 use Rattle.slot_calls.proofs.Taking.{follows_search, follows_lock, follows_none, mode_none}
 use Rattle.slot_calls.proofs.follow.follow.Goals as goal
@@ -31,7 +30,7 @@ pub returns-in-Dl-clause-receiver : goal.returns-in-Dl-clause-receiver
 unfolding receiver_from with_mode with_clock
 returns-in-Dl-clause-receiver c = λ next next₂ s s₂.
     let a = c.args in
-    let n = rw c.mode-slots.ensures at c.slot_when-slots.ensures in
+    let n = rw c.mode-in-Dl.ensures at c.slot_when-slots.ensures in
     rw (c.number-slots-in-Dl.ensures, mode_stored Ul)
     (follows_lock (receiver_from a.slots.now next s) (receiver_from a.demod.now next₂ s₂) (mode_of a.demod.now.mode) c.slot_when-slots.result.0 (sym c.mode.ensures ∙ c.in-Dl.is) n)
 

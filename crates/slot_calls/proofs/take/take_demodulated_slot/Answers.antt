@@ -1,5 +1,6 @@
 -- A refusal changes nothing, and three views fill the slices.
 use Rattle.std.proofs.Common.{rules, ◌≡◌, sym, ap, ◌∙◌, ℕ, ◌≤◌, List, [], ◌∷◌, length, take, length-take-le, ℤ, arith}
+use Rattle.std.proofs.lemmas.Result.{err_from_is_err_and}
 use Rattle.dsp_types.specs.Answers.{number_of}
 use Rattle.dsp_types.specs.Refusals.{wrong_length}
 use Rattle.listener.specs.Signal.{Signal}
@@ -18,7 +19,7 @@ use Rattle.slot_calls.proofs.take.take_demodulated_slot.Goals.{Start, In_err-tak
 -- what a refused take comes to, and an answered one
 refused : (c : In_err-take_refusal) (next : ℤ) (signal : Signal) → let a = c.args in
     take_outcome (receiver_from a.slots.now next signal) a.slot.now a.subslot1.now a.subslot2.now
-    ≡ kept (number_of c.in_err-take_refusal.field-0) (receiver_from a.slots.now next signal) (a.slot.now ∷ a.subslot1.now ∷ a.subslot2.now ∷ [])
+    ≡ kept (number_of c.in_err-take_refusal.field-0.0) (receiver_from a.slots.now next signal) (a.slot.now ∷ a.subslot1.now ∷ a.subslot2.now ∷ [])
 unfolding take_outcome take_refusal wrong_length receiver_from
 refused c next signal = unless_err _ _ _ c.take_refusal.ensures _ c.in_err-take_refusal.was
 
@@ -55,7 +56,9 @@ front bits e = sym (length-take-le 254 bits (omega (arith, e)))
 pub returns-in_err-take_refusal-clause-answer : goal.returns-in_err-take_refusal-clause-answer
 unfolding take_reply_of in_numbers
 returns-in_err-take_refusal-clause-answer c = λ next signal.
-    sym (ap (λ (o : Outcome). in_numbers o.reply) (refused (goal.at.returns-in_err-take_refusal-clause-answer c).In_err-take_refusal next signal))
+    let p = err_from_is_err_and c.from_residual.result c.from_residual.ensures.1 in
+    rw (p.1, p.2)
+    (sym (ap (λ (o : Outcome). in_numbers o.reply) (refused (goal.at.returns-in_err-take_refusal-clause-answer c).In_err-take_refusal next signal)))
 
 pub returns-in_err-take_refusal-clause-receiver : goal.returns-in_err-take_refusal-clause-receiver
 returns-in_err-take_refusal-clause-receiver c = λ next signal.
