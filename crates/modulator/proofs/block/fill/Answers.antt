@@ -12,7 +12,7 @@ unfolding place_due place_in
 loop-n-preserved c =
     let a = c.args in
     let l = c.loop-n in
-    let p = l.mapper.phase in
+    let p = l.next.phase in
     let due = slot_due a.counter a.slot in
     let k = c.symbol-x.new.self.phase in
     let x = c.symbol-x.result in
@@ -31,7 +31,7 @@ pub returns : goal.returns
 returns c =
     let a = c.args in
     let l = c.loop-n in
-    let p = l.mapper.phase in
+    let p = l.next.phase in
     let due = slot_due a.counter a.slot in
     let e : l.n ≡ a.count = omega arith in
     record {
