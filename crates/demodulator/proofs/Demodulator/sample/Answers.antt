@@ -1,5 +1,6 @@
 -- The state's own call, with the past lent.
 use Rattle.demodulator.specs.View.{view_of}
+use Rattle.demodulator.proofs.Views.{as_given, on_err}
 use Rattle.demodulator.proofs.Demodulator.sample.Goals as goal
 
 pub returns-clause-answer : goal.returns-clause-answer
@@ -11,4 +12,4 @@ unfolding view_of
 returns-clause-receiver c = c.sample.ensures.receiver
 
 pub returns-clause-refused : goal.returns-clause-refused
-returns-clause-refused c = ?
+returns-clause-refused c = on_err c.sample.result (λ u. as_given c.args.self.now u) c.sample.ensures.refused
