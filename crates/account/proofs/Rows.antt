@@ -24,12 +24,12 @@ unfolding padded
 padded_none zero = refl
 padded_none (suc n) = ap (λ (l : List ℕ). 0 ∷ l) (padded_none n)
 
--- one more of the same
-pub padded_more : (n i b : ℕ) → i < n → set (padded n (replicate i b)) i b ≡ padded n (replicate (suc i) b)
+-- bits in the place of zeros
+pub padded_behind : (n : ℕ) (bits : List ℕ) → length bits ≤ n → bits ++ drop (length bits) (replicate n 0) ≡ padded n bits
 unfolding padded
-padded_more zero i b h = absurd (omega arith)
-padded_more (suc n) zero b h = refl
-padded_more (suc n) (suc i) b h = ap (λ (l : List ℕ). b ∷ l) (padded_more n i b (omega arith))
+padded_behind n [] h = sym (padded_none n)
+padded_behind zero (b ∷ bits) h = absurd (omega arith)
+padded_behind (suc n) (b ∷ bits) h = ap (λ (l : List ℕ). b ∷ l) (padded_behind n bits (omega arith))
 
 -- others in the bits' place
 pub padded_over : (n : ℕ) (bits others : List ℕ) → length bits ≤ n → length others ≡ length bits → others ++ drop (length bits) (padded n bits) ≡ padded n others
