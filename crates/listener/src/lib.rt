@@ -6,9 +6,10 @@ mod listen;
 mod window;
 
 use fir::FirComplexSym;
-pub use window::{Reading, first_half_window, second_half_window, slot_window};
+pub use window::{Reading, Window, read_window};
 
-// The filter line, and where the newest sample stands in the rings of the past, which are lent.
+// The filter line, and where the newest sample stands in the rings of the past. The rings are lent with each call, as C lends
+// them: a struct of references to them would need a clause in each contract that it still holds the same three.
 #[repr(C)]
 #[derive(Clone, Copy)]
 pub struct Listener {

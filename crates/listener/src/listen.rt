@@ -6,7 +6,7 @@ ghost use Rattle.listener.specs.Signal.{unheard, hear, hear_all};
 ghost use Rattle.listener.specs.View.{signal_of};
 
 use crate::Listener;
-use dsp_types::{ComplexSample, least};
+use dsp_types::ComplexSample;
 use fir::FirComplexSym;
 
 // So many samples are filtered at once: their rows fit the first level of cache.
@@ -25,55 +25,42 @@ impl Listener {
 
     // One sample.
     pub fn listen(
-        self,
+        &mut self,
         re: &mut [f32; 2048],
         im: &mut [f32; 2048],
         abs: &mut [f32; 2048],
         input: ComplexSample,
-    ) -> Listener
-        ensures { signal_of result re.new im.new abs.new ≡ hear (signal_of self re.old im.old abs.old) input }
+    )
+        ensures { signal_of self.new re.new im.new abs.new ≡ hear (signal_of self.old re.old im.old abs.old) input }
     {
-        let line = self.matched_filter;
-        let filtered = line.sample(input);
-        let out = filtered.out;
-        let next_line = filtered.line;
-        let out_re = [out.re; 1];
-        let out_im = [out.im; 1];
-        let size = [magnitude::magnitude(out.re, out.im); 1];
+        let out = self.matched_filter.sample(input);
         let at = self.past_index;
-        history::store(re, at, &out_re);
-        history::store(im, at, &out_im);
-        Listener {
-            matched_filter: next_line,
-            past_index: history::store(abs, at, &size),
-        }
+        history::store(re, at, &[out.re]);
+        history::store(im, at, &[out.im]);
+        self.past_index = history::store(abs, at, &[magnitude::magnitude(out.re, out.im)]);
     }
 
     // The samples of two rows of parts, as far as both go and at most 512, oldest first: filter, magnitudes and rings, each over
     // all of them.
     pub fn listen_all(
-        self,
+        &mut self,
         re: &mut [f32; 2048],
         im: &mut [f32; 2048],
         abs: &mut [f32; 2048],
         x: &[f32],
         y: &[f32],
-    ) -> Listener
-        ensures { signal_of result re.new im.new abs.new ≡ hear_all (signal_of self re.old im.old abs.old) (take 512 (samples_of x.now y.now)) }
+    )
+        ensures { signal_of self.new re.new im.new abs.new ≡ hear_all (signal_of self.old re.old im.old abs.old) (take 512 (samples_of x.now y.now)) }
     {
-        let n = least(least(x.len(), y.len()), PIECE);
+        let n = x.len().min(y.len()).min(PIECE);
         let mut out_re = [0.0f32; PIECE];
         let mut out_im = [0.0f32; PIECE];
-        let line = self.matched_filter;
-        let last_line = line.block(x, y, &mut out_re, &mut out_im);
+        self.matched_filter.block(x, y, &mut out_re, &mut out_im);
         let mut sizes = [0.0f32; PIECE];
         magnitude::magnitudes(&out_re[..n], &out_im[..n], &mut sizes);
         let at = self.past_index;
         history::store(re, at, &out_re[..n]);
         history::store(im, at, &out_im[..n]);
-        Listener {
-            matched_filter: last_line,
-            past_index: history::store(abs, at, &sizes[..n]),
-        }
+        self.past_index = history::store(abs, at, &sizes[..n]);
     }
 }

@@ -1,7 +1,15 @@
 // Windows of the past: a whole slot's, and those of its two halves.
-ghost use Rattle.std.specs.Prelude.{List, ◌≤◌, ◌<◌};
+ghost use Rattle.std.specs.Prelude.{◌≡◌, List, ◌<◌, ◌≤◌};
 ghost use Rattle.dsp_types.specs.declared.ComplexSample.{ComplexSample};
-ghost use Rattle.listener.specs.View.{signal_from, Reads};
+ghost use Rattle.listener.specs.View.{start_of, symbols_of, signal_from, Reads};
+
+// A slot's window, and those of its halves.
+#[derive(Clone, Copy, Debug, PartialEq, Eq)]
+pub enum Window {
+    Slot,
+    FirstHalf,
+    SecondHalf,
+}
 
 // A window's symbol timing, and its bits with zeros behind them.
 #[derive(Clone, Copy)]
@@ -10,59 +18,45 @@ pub struct Reading {
     pub bits: [u8; 510],
 }
 
-// The window of n symbols that starts d samples ago, in rings whose newest element stands at the index.
-fn read_window<'a>(
-    re: &'a [f32; 2048],
-    im: &'a [f32; 2048],
-    abs: &'a [f32; 2048],
-    index: usize,
-    d: usize,
-    n: usize,
-) -> Reading
-    requires { (d < 2048) × (n ≤ 256) }
-    ensures { (inputs : List ComplexSample) → Reads (signal_from inputs re.now im.now abs.now index) d n result }
-{
-    let t = timing::estimate_timing(abs, index, d, n);
-    let first = timing::whole(t);
-    let fract = timing::fract(t);
-    Reading {
-        timing: t,
-        bits: slot_bits::slot_bits(re, im, index, d, first, fract, n),
+impl Window {
+    // How many samples ago it starts.
+    fn start(self) -> usize
+        ensures { result ≡ start_of self }
+    {
+        match self {
+            Window::Slot | Window::FirstHalf => 1024,
+            Window::SecondHalf => 514,
+        }
+    }
+
+    // How many symbols it has.
+    fn symbols(self) -> usize
+        ensures { result ≡ symbols_of self }
+    {
+        match self {
+            Window::Slot => 256,
+            Window::FirstHalf | Window::SecondHalf => 128,
+        }
     }
 }
 
-// A slot's window, 256 symbols that start 1,024 samples ago.
-pub fn slot_window<'a>(
+// A window of rings whose newest element stands at the index.
+pub fn read_window<'a>(
     re: &'a [f32; 2048],
     im: &'a [f32; 2048],
     abs: &'a [f32; 2048],
     index: usize,
+    window: Window,
 ) -> Reading
-    ensures { (inputs : List ComplexSample) → Reads (signal_from inputs re.now im.now abs.now index) 1024 256 result }
+    ensures { (inputs : List ComplexSample) → Reads (signal_from inputs re.now im.now abs.now index) (start_of window) (symbols_of window) result }
 {
-    read_window(re, im, abs, index, 1024, 256)
-}
-
-// The window of its first half, 128 symbols.
-pub fn first_half_window<'a>(
-    re: &'a [f32; 2048],
-    im: &'a [f32; 2048],
-    abs: &'a [f32; 2048],
-    index: usize,
-) -> Reading
-    ensures { (inputs : List ComplexSample) → Reads (signal_from inputs re.now im.now abs.now index) 1024 128 result }
-{
-    read_window(re, im, abs, index, 1024, 128)
-}
-
-// The window of its second half, 510 samples later.
-pub fn second_half_window<'a>(
-    re: &'a [f32; 2048],
-    im: &'a [f32; 2048],
-    abs: &'a [f32; 2048],
-    index: usize,
-) -> Reading
-    ensures { (inputs : List ComplexSample) → Reads (signal_from inputs re.now im.now abs.now index) 514 128 result }
-{
-    read_window(re, im, abs, index, 514, 128)
+    let start = window.start();
+    let symbols = window.symbols();
+    let timing = timing::estimate_timing(abs, index, start, symbols);
+    let whole = timing::whole(timing);
+    let fract = timing::fract(timing);
+    Reading {
+        timing,
+        bits: slot_bits::slot_bits(re, im, index, start, whole, fract, symbols),
+    }
 }

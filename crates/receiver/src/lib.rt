@@ -1,4 +1,4 @@
-// The receiver (demodulator.rs): samples in, slots with their number and bursts out. Its state goes by value, its past is lent.
+// The receiver (demodulator.rs): samples in, slots with their number and bursts out. Its past is lent.
 #![tactic(auto)]
 
 mod calls;
@@ -6,14 +6,13 @@ mod feed;
 mod hear;
 mod sample;
 
-pub use calls::StateTaken;
 use dsp_types::SampleCount;
-pub use feed::{StateFed, Stop};
+pub use feed::{Fed, Stop};
 use listener::Listener;
-pub use sample::StateAnswered;
 use slot_receiver::SlotReceiver;
 
-// All of a receiver but its past, three rings of 2,048.
+// All of a receiver but its past, three rings of 2,048. C lends them as three arrays: a struct of references to them would need a
+// clause in each contract that it still holds the same three.
 #[repr(C)]
 #[derive(Clone, Copy)]
 pub struct State {

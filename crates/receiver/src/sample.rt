@@ -1,5 +1,5 @@
 // A new receiver, and samples one by one.
-ghost use Rattle.std.specs.Prelude.{◌≡◌, true, ℕ, ◌<◌, replicate};
+ghost use Rattle.std.specs.Prelude.{◌≡◌, OnErr, true, ◌<◌, replicate};
 ghost use Rattle.dsp_types.specs.Samples.{zero_f};
 ghost use Rattle.slot_receiver.specs.Receiver.{with_next, new, listen};
 ghost use Rattle.slot_receiver.specs.Calls.{sample_outcome, reply_of};
@@ -8,36 +8,10 @@ ghost use Rattle.receiver.specs.Keep.{OnlyKept, Keeps};
 ghost use Rattle.receiver.specs.View.{receiver_of, Untouched};
 
 use crate::State;
-use crate::hear::Judged;
-use dsp_types::{ACCEPTED, ComplexSample, SampleCount};
+use dsp_types::{ComplexSample, Refusal, SampleCount};
 use listener::Listener;
 use sample_refusal::is_beyond;
-use slot_receiver::{Answer, Mode, SlotReceiver};
-
-#[derive(Clone, Copy)]
-pub struct StateAnswered {
-    pub answer: Answer,
-    pub state: State,
-}
-
-// How a sample that was judged is answered.
-fn answered(judged: Judged) -> StateAnswered
-    ensures accepted { judged.refusal ≡ 0 → result.answer ≡ Answer.Accepted }
-    ensures refused { (judged.refusal ≡ 0 → ⊥) → result.answer ≡ Answer.Refused judged.refusal }
-    ensures state { result.state ≡ judged.state }
-{
-    let state = judged.state;
-    if judged.refusal != ACCEPTED {
-        return StateAnswered {
-            answer: Answer::Refused(judged.refusal),
-            state,
-        };
-    }
-    StateAnswered {
-        answer: Answer::Accepted,
-        state,
-    }
-}
+use slot_receiver::{Mode, SlotReceiver};
 
 impl State {
     // Its past is all zeros.
@@ -53,60 +27,56 @@ impl State {
     }
 
     // How many samples from this counter on are only kept, since none is missing and no window closes.
-    pub(crate) fn quiet_samples(self, counter: SampleCount) -> usize
-        ensures { 0 < result → OnlyKept (clock_of self.slots) self.slots.slots_since_last_valid_burst self.next_input_sample_count.0 counter.0 result }
+    pub(crate) fn quiet_samples(&self, counter: SampleCount) -> usize
+        ensures { 0 < result → OnlyKept (clock_of self.now.slots) self.now.slots.slots_since_last_valid_burst self.now.next_input_sample_count.0 counter.0 result }
     {
-        if self.next_input_sample_count.is_same(counter) {
-            return self.slots.quiet_samples(counter);
+        if self.next_input_sample_count == counter {
+            self.slots.quiet_samples(counter)
+        } else {
+            0
         }
-        0
     }
 
     // A sample that is only kept.
     fn keep(
-        self,
+        &mut self,
         re: &mut [f32; 2048],
         im: &mut [f32; 2048],
         abs: &mut [f32; 2048],
         input: ComplexSample,
         next: SampleCount,
-    ) -> State
-        ensures { receiver_of result re.new im.new abs.new ≡ with_next (listen (receiver_of self re.old im.old abs.old) input) next.0 }
+    )
+        ensures { receiver_of self.new re.new im.new abs.new ≡ with_next (listen (receiver_of self.old re.old im.old abs.old) input) next.0 }
     {
-        let heard = self.listener.listen(re, im, abs, input);
-        let mut d = self;
-        d.listener = heard;
-        d.next_input_sample_count = next;
-        d
+        self.listener.listen(re, im, abs, input);
+        self.next_input_sample_count = next;
     }
 
     // Whether this sample is only kept.
-    fn keeps(self, input: ComplexSample, counter: SampleCount) -> bool
-        ensures { result ≡ true → Keeps (clock_of self.slots) self.slots.slots_since_last_valid_burst self.next_input_sample_count.0 input counter.0 }
+    fn keeps(&self, input: ComplexSample, counter: SampleCount) -> bool
+        ensures { result ≡ true → Keeps (clock_of self.now.slots) self.now.slots.slots_since_last_valid_burst self.now.next_input_sample_count.0 input counter.0 }
     {
-        !(is_beyond(input.re) | is_beyond(input.im)) & (0 < self.quiet_samples(counter))
+        !(is_beyond(input.re) || is_beyond(input.im)) && 0 < self.quiet_samples(counter)
     }
 
     // Takes one sample, or refuses it and leaves state and past as they are.
     pub fn sample(
-        self,
+        &mut self,
         re: &mut [f32; 2048],
         im: &mut [f32; 2048],
         abs: &mut [f32; 2048],
         input: ComplexSample,
         sample_counter: SampleCount,
-    ) -> StateAnswered
-        ensures answer { reply_of result.answer ≡ (sample_outcome (receiver_of self re.old im.old abs.old) input sample_counter.0).reply }
-        ensures receiver { receiver_of result.state re.new im.new abs.new ≡ (sample_outcome (receiver_of self re.old im.old abs.old) input sample_counter.0).receiver }
-        ensures refused { (n : ℕ) → result.answer ≡ Answer.Refused n → Untouched self result.state re.old re.new im.old im.new abs.old abs.new }
+    ) -> Result<(), Refusal>
+        ensures answer { reply_of result ≡ (sample_outcome (receiver_of self.old re.old im.old abs.old) input sample_counter.0).reply }
+        ensures receiver { receiver_of self.new re.new im.new abs.new ≡ (sample_outcome (receiver_of self.old re.old im.old abs.old) input sample_counter.0).receiver }
+        ensures refused { OnErr result (Untouched self.old self.new re.old re.new im.old im.new abs.old abs.new) }
     {
         if self.keeps(input, sample_counter) {
-            let state = self.keep(re, im, abs, input, sample_counter.plus(1));
-            return StateAnswered {
-                answer: Answer::Accepted,
-                state,
-            };
+            self.keep(re, im, abs, input, sample_counter.plus(1));
+        } else {
+            self.hear(re, im, abs, input, sample_counter)?;
         }
-        answered(self.hear(re, im, abs, input, sample_counter))
+        Ok(())
     }
 }

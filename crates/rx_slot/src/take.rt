@@ -6,26 +6,26 @@ ghost use Rattle.rx_slot.specs.Views.{stored_view, valid_view, burst_shown, padd
 
 use crate::{RxBurst, no_burst};
 use burst_finder::MAX_ERRS;
-use dsp_types::{SampleCount, least};
+use dsp_types::SampleCount;
 
 // Fills lent bytes with bits, and zeros behind them. A byte counts modulo 2.
 fn fill(bits: &[u8], out: &mut [u8])
     ensures { out.new ≡ padded (length out.old) (map (λ b. b % 2) bits.now) }
 {
-    let n = least(bits.len(), out.len());
-    for i in 0..n {
-        out[i] = bits[i] % 2;
+    let n = bits.len().min(out.len());
+    for (to, bit) in out.iter_mut().zip(bits) {
+        *to = bit % 2;
     }
-    for i in n..out.len() {
-        out[i] = 0;
-    }
+    out[n..].fill(0);
 }
 
-// Whether a stored burst, with so many bits, is one that a window can have left.
-fn is_found(train_type: u8, train_errs: usize, len: usize) -> bool
-    ensures { result ≡ (not (eqb train_type 0) && (leb train_type 4 && (leb train_errs most_errors && not (eqb len 0)))) }
-{
-    (train_type != 0) & ((train_type <= 4) & ((train_errs <= MAX_ERRS) & (len != 0)))
+impl RxBurst {
+    // Whether a stored burst, with so many bits, is one that a window can have left.
+    fn is_found(&self, len: usize) -> bool
+        ensures { result ≡ (not (eqb self.now.train_type 0) && (leb self.now.train_type 4 && (leb self.now.train_errs most_errors && not (eqb len 0)))) }
+    {
+        self.train_type != 0 && self.train_type <= 4 && self.train_errs <= MAX_ERRS && len != 0
+    }
 }
 
 // Fills lent bytes with the view of a stored burst in a window's bits, and tells of it.
@@ -34,16 +34,14 @@ pub fn take_burst(burst: RxBurst, bits: &[u8], out: &mut [u8]) -> RxBurst
     ensures bytes { out.new ≡ padded (length out.old) (valid_view (stored_view (length bits.now) bits.now burst)).bits }
 {
     let part = burst_finder::get_burst(bits, burst.burst_pos, burst.burst_len);
-    if is_found(burst.train_type, burst.train_errs, part.len()) {
+    if burst.is_found(part.len()) {
         fill(part, out);
         return RxBurst {
-            train_type: burst.train_type,
-            train_errs: burst.train_errs,
-            burst_pos: burst.burst_pos,
             burst_len: part.len(),
+            ..burst
         };
     }
-    fill(&bits[..0], out);
+    fill(&[], out);
     no_burst()
 }
 

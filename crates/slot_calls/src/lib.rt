@@ -4,5 +4,5 @@
 mod follow;
 mod take;
 
-pub use follow::{Followed, sync_to_demodulator};
-pub use take::{Taken, take_demodulated_slot};
+pub use follow::sync_to_demodulator;
+pub use take::take_demodulated_slot;

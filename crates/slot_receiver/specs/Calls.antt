@@ -1,13 +1,12 @@
 -- The calls on a receiver: what each comes to (01, "Refusals", "Slot bits and burst views", "The receiver"). Definitions only.
-use Rattle.std.specs.Prelude.{ℕ, zero, suc, Bool, false, cond, ◌||◌, List, [], ◌∷◌, ℤ}
+use Rattle.std.specs.Prelude.{ℕ, zero, suc, Bool, false, cond, ◌||◌, List, [], ◌∷◌, Result, Ok, Err, ℤ}
 use Rattle.std.specs.Int.Signed.{lt_z}
 use Rattle.dsp_types.specs.declared.ComplexSample.{ComplexSample}
+use Rattle.dsp_types.specs.declared.refusals.Refusal.{Refusal}
+use Rattle.dsp_types.specs.Answers.{number_of}
 use Rattle.dsp_types.specs.Refusals.{accepted, bad_sample, bad_counter, bad_length, past_counter, no_slot_waits, not_following, beyond, out_of_count, wrong_length}
 use Rattle.rx_slot.specs.declared.RxSlot.{RxSlot}
 use Rattle.rx_slot.specs.Slots.{HandedSlot, valid_slot, shown, filled}
-use Rattle.slot_receiver.specs.declared.Answer.{Answer}
-use Rattle.slot_receiver.specs.declared.Answer.TheVariants.{Accepted, Refused}
-use Rattle.slot_receiver.specs.declared.TakeAnswer.{TakeAnswer}
 use Rattle.slot_receiver.specs.declared.Mode.{Mode}
 use Rattle.slot_receiver.specs.declared.Mode.TheVariants.{Idle, DlUnsynchronized, Dl, Ul}
 use Rattle.slot_receiver.specs.Receiver.{Receiver, with_mode, with_clock, with_waits, valid_count, accept}
@@ -92,15 +91,15 @@ followed r other = record { reply = done; receiver = following other.mode r othe
 unfoldable pub follow_outcome : Receiver → Receiver → Outcome
 follow_outcome r other = unless (follow_refusal r.mode) r [] (followed r other)
 
--- ---- 01's number and values of each case of an answer's enum: no two answers tell the same
+-- ---- 01's number and values of each answer: no two answers tell the same
 
-unfoldable pub reply_of : Answer → Reply HandedSlot
-reply_of Accepted = done
-reply_of (Refused n) = refused n
+unfoldable pub reply_of : Result (Unit {0}) Refusal → Reply HandedSlot
+reply_of (Ok x) = done
+reply_of (Err refusal) = refused (number_of refusal)
 
-unfoldable pub take_reply_of : TakeAnswer → Reply RxSlot
-take_reply_of (TakeAnswer.Slot s) = took s
-take_reply_of (TakeAnswer.Refused n) = refused n
+unfoldable pub take_reply_of : Result RxSlot Refusal → Reply RxSlot
+take_reply_of (Ok slot) = took slot
+take_reply_of (Err refusal) = refused (number_of refusal)
 
 -- a slot in numbers: of a view its length, since its bits are the lent bytes
 unfoldable pub in_numbers : Reply HandedSlot → Reply RxSlot

@@ -7,7 +7,7 @@ ghost use Rattle.slot_receiver.specs.Receiver.{slot_ready_from_begin, set_slot, 
 ghost use Rattle.slot_receiver.specs.View.{mode_of, clock_of, receiver_from};
 ghost use Rattle.slot_receiver.specs.Bounds.{Within};
 
-use crate::SlotReceiver;
+use crate::{Mode, SlotReceiver};
 use dsp_types::{SampleCount, TdmaTime};
 
 // The samples from the beginning of slot 0 to that of this one.
@@ -18,16 +18,19 @@ fn slots_long(slot: TdmaTime) -> i64
 }
 
 // Samples from the beginning of a slot to where it is ready to be demodulated.
-fn slot_ready_from_begin(mode: u8) -> i64
-    ensures { result ≡ slot_ready_from_begin (mode_of mode) }
+fn slot_ready_from_begin(mode: Mode) -> i64
+    ensures { result ≡ slot_ready_from_begin mode }
 {
-    if mode == 3 { 1020 } else { 1018 }
+    match mode {
+        Mode::Idle | Mode::DlUnsynchronized | Mode::Dl => 1018,
+        Mode::Ul => 1020,
+    }
 }
 
 // When the slot with this number is ready.
-pub(crate) fn ready_time(mode: u8, reference: SampleCount, slot: TdmaTime) -> SampleCount
+pub(crate) fn ready_time(mode: Mode, reference: SampleCount, slot: TdmaTime) -> SampleCount
     requires { Within (2 ^ 40) reference.0 × (slot.0 < slots) }
-    ensures { result.0 ≡ reference.0 +ℤ pos (slot.0 * 1020) +ℤ slot_ready_from_begin (mode_of mode) }
+    ensures { result.0 ≡ reference.0 +ℤ pos (slot.0 * 1020) +ℤ slot_ready_from_begin mode }
 {
     reference
         .plus(slots_long(slot))
@@ -46,7 +49,7 @@ pub(crate) fn tdiff(counter: SampleCount, ready: SampleCount) -> i64
 pub(crate) fn is_far(t: i64) -> bool
     ensures { result ≡ far t }
 {
-    (t < -2040) | (0 < t)
+    t < -2040 || 0 < t
 }
 
 // How many slots the counter is past the ready time, rounded up.
@@ -58,33 +61,28 @@ fn slots_to_skip(t: i64) -> i32
 }
 
 impl SlotReceiver {
-    pub(crate) fn set_slot(self, slot: TdmaTime) -> SlotReceiver
-        requires { Within (2 ^ 40) self.reference_time.0 × (slot.0 < slots) }
-        ensures { (next : ℤ) (s : Signal) → receiver_from result next s ≡ with_clock (receiver_from self next s) (set_slot (mode_of self.mode) self.reference_time.0 slot.0) }
+    pub(crate) fn set_slot(&mut self, slot: TdmaTime)
+        requires { Within (2 ^ 40) self.old.reference_time.0 × (slot.0 < slots) }
+        ensures { (next : ℤ) (s : Signal) → receiver_from self.new next s ≡ with_clock (receiver_from self.old next s) (set_slot (mode_of self.old.mode) self.old.reference_time.0 slot.0) }
     {
-        let ready = ready_time(self.mode, self.reference_time, slot);
-        let mut d = self;
-        d.current_slot = slot;
-        d.slot_ready_time = ready;
-        d
+        self.current_slot = slot;
+        self.slot_ready_time = ready_time(self.mode(), self.reference_time, slot);
     }
 
-    pub(crate) fn add_slots(self, count: i32) -> SlotReceiver
-        requires { Within (2 ^ 40) self.reference_time.0 × (self.current_slot.0 < slots) }
-        ensures { (next : ℤ) (s : Signal) → receiver_from result next s ≡ with_clock (receiver_from self next s) (add_slots (mode_of self.mode) (clock_of self) count) }
+    pub(crate) fn add_slots(&mut self, count: i32)
+        requires { Within (2 ^ 40) self.old.reference_time.0 × (self.old.current_slot.0 < slots) }
+        ensures { (next : ℤ) (s : Signal) → receiver_from self.new next s ≡ with_clock (receiver_from self.old next s) (add_slots (mode_of self.old.mode) (clock_of self.old) count) }
     {
-        let slot = self.current_slot.add_timeslots(count);
-        self.set_slot(slot)
+        self.set_slot(self.current_slot.add_timeslots(count));
     }
 
     // Finds the next slot that is not past where the ready time is far off.
-    pub(crate) fn skip_slots(self, t: i64) -> SlotReceiver
-        requires { Within (2 ^ 40) self.reference_time.0 × (self.current_slot.0 < slots) × Within (2 ^ 41 - 2 ^ 34) t }
-        ensures { (next : ℤ) (s : Signal) → receiver_from result next s ≡ skip_if (far t) t (receiver_from self next s) }
+    pub(crate) fn skip_slots(&mut self, t: i64)
+        requires { Within (2 ^ 40) self.old.reference_time.0 × (self.old.current_slot.0 < slots) × Within (2 ^ 41 - 2 ^ 34) t }
+        ensures { (next : ℤ) (s : Signal) → receiver_from self.new next s ≡ skip_if (far t) t (receiver_from self.old next s) }
     {
         if is_far(t) {
-            return self.add_slots(slots_to_skip(t));
+            self.add_slots(slots_to_skip(t));
         }
-        self
     }
 }

@@ -4,46 +4,35 @@
 
 mod arrive;
 mod clock;
+mod modes;
 mod new;
 mod quiet;
+mod search;
 mod valid;
 mod window;
 
-pub use arrive::Arrived;
 use dsp_types::{SampleCount, TdmaTime};
 use rx_slot::RxSlot;
 pub use valid::valid_count;
 
-#[derive(Clone, Copy)]
+#[derive(Clone, Copy, Debug, PartialEq, Eq)]
 pub enum Mode {
     // Do nothing: an uplink receiver whose downlink receiver is unsynchronized.
-    Idle,
+    Idle = 0,
     // Downlink, slot timing unknown: look for a synchronization sequence in overlapping windows.
-    DlUnsynchronized,
+    DlUnsynchronized = 1,
     // Downlink with known slot timing.
-    Dl,
+    Dl = 2,
     // Uplink.
-    Ul,
+    Ul = 3,
 }
 
-#[derive(Clone, Copy)]
-pub enum Answer {
-    Accepted,
-    Refused(u32),
-}
-
-#[derive(Clone, Copy)]
-pub enum TakeAnswer {
-    Slot(RxSlot),
-    Refused(u32),
-}
-
-// Modes and training sequences are numbers, so that C can hold them. A stored number that no call could have left counts as a
-// valid one.
+// Mode and training sequences are stored as numbers: C holds this struct, and no exported struct holds an enum. A stored number that no
+// call could have left counts as a valid one.
 #[repr(C)]
 #[derive(Clone, Copy)]
 pub struct SlotReceiver {
-    // 0 Idle, 1 DlUnsynchronized, 2 Dl, 3 Ul.
+    // That of a Mode.
     pub mode: u8,
     // Sample counter at the beginning of hyperframe number 0.
     pub reference_time: SampleCount,

@@ -9,45 +9,29 @@ use crate::{Mode, SlotReceiver};
 use dsp_types::{SampleCount, TdmaTime};
 use rx_slot::{RxSlot, no_burst};
 
-// The number that a receiver stores for its mode.
-#[tactic(auto, unfolding(crate::specs::View::mode_number))]
-fn number(mode: Mode) -> u8
-    ensures { result ≡ mode_number mode }
-{
-    match mode {
-        Mode::Idle => 0,
-        Mode::DlUnsynchronized => 1,
-        Mode::Dl => 2,
-        Mode::Ul => 3,
-    }
-}
-
 impl SlotReceiver {
     pub fn new(initial_mode: Mode) -> SlotReceiver
         ensures receiver { receiver_from result (pos 0) unheard ≡ new initial_mode }
         ensures mode { result.mode ≡ mode_number initial_mode }
     {
-        let mode = number(initial_mode);
-        let empty = no_burst();
         let first = TdmaTime::default();
-        let ready = ready_time(mode, SampleCount(0), first);
-        let slot = RxSlot {
-            time: first,
-            closing_counter: SampleCount(0),
-            full: empty,
-            subslot1: empty,
-            subslot2: empty,
-        };
+        let empty = no_burst();
         SlotReceiver {
-            mode,
+            mode: initial_mode.number(),
             reference_time: SampleCount(0),
             // The ready time is that of slot 0.
-            slot_ready_time: ready,
+            slot_ready_time: ready_time(initial_mode, SampleCount(0), first),
             current_slot: first,
             averaged_timing_error: 0.0,
             slots_since_last_valid_burst: 0,
             demodulated_slot_available: false,
-            demodulated_slot: slot,
+            demodulated_slot: RxSlot {
+                time: first,
+                closing_counter: SampleCount(0),
+                full: empty,
+                subslot1: empty,
+                subslot2: empty,
+            },
             full_bits: [0; 510],
             subslot1_bits: [0; 510],
             subslot2_bits: [0; 510],

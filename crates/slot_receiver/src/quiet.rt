@@ -16,30 +16,27 @@ const LAST_QUIET: i64 = LAST_COUNTER - MOST_QUIET;
 
 impl SlotReceiver {
     // Whether the stored numbers are read as they are.
-    fn stands(self) -> bool
-        ensures { result ≡ stands (clock_of self) self.slots_since_last_valid_burst }
+    fn stands(&self) -> bool
+        ensures { result ≡ stands (clock_of self.now) self.now.slots_since_last_valid_burst }
     {
-        let reference = self.reference_time;
-        let ready = self.slot_ready_time;
-        let reference_stands = valid_time(reference, FAR_REFERENCE).is_same(reference);
-        let ready_stands = valid_time(ready, FAR_READY).is_same(ready);
-        let slot_stands = self.current_slot.0 < SLOTS;
-        let misses_stand = self.slots_since_last_valid_burst <= LOST;
-        reference_stands & (ready_stands & (slot_stands & misses_stand))
+        valid_time(self.reference_time, FAR_REFERENCE) == self.reference_time
+            && valid_time(self.slot_ready_time, FAR_READY) == self.slot_ready_time
+            && self.current_slot.0 < SLOTS
+            && self.slots_since_last_valid_burst <= LOST
     }
 
     // How many samples from this counter on are only kept, as far as it can be told at once.
-    pub fn quiet_samples(self, counter: SampleCount) -> usize
-        ensures { result ≡ quiet_samples (clock_of self) self.slots_since_last_valid_burst counter.0 }
+    pub fn quiet_samples(&self, counter: SampleCount) -> usize
+        ensures { result ≡ quiet_samples (clock_of self.now) self.now.slots_since_last_valid_burst counter.0 }
     {
         if !self.stands() {
             return 0;
         }
-        if counter.is_before(SampleCount(0)) | SampleCount(LAST_QUIET).is_before(counter) {
+        if counter < SampleCount(0) || SampleCount(LAST_QUIET) < counter {
             return 0;
         }
         let left = self.slot_ready_time.plus(16).since(counter);
-        if (left < 1) | (MOST_QUIET < left) {
+        if left < 1 || MOST_QUIET < left {
             return 0;
         }
         dsp_types::unsigned(left) as usize

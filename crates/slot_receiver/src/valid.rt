@@ -1,7 +1,7 @@
 // A stored number that no call could have left counts as a valid one.
-ghost use Rattle.std.specs.Prelude.{◌≡◌, min, ℤ};
+ghost use Rattle.std.specs.Prelude.{◌≡◌, ℤ};
 ghost use Rattle.listener.specs.Signal.{Signal};
-ghost use Rattle.slot_receiver.specs.Receiver.{lost_at, valid_time, valid_count, valid};
+ghost use Rattle.slot_receiver.specs.Receiver.{valid_time, valid_count, valid};
 ghost use Rattle.slot_receiver.specs.View.{receiver_from};
 
 use crate::SlotReceiver;
@@ -30,33 +30,21 @@ pub(crate) fn valid_time(t: SampleCount, most: u64) -> SampleCount
 pub fn valid_count(count: SampleCount) -> SampleCount
     ensures { result.0 ≡ valid_count count.0 }
 {
-    if count.is_before(SampleCount(0)) | SampleCount(LAST_NEXT).is_before(count) {
+    if count < SampleCount(0) || SampleCount(LAST_NEXT) < count {
         SampleCount(0)
     } else {
         count
     }
 }
 
-fn valid_misses(n: u32) -> u32
-    ensures { result ≡ min lost_at n }
-{
-    if n < LOST { n } else { LOST }
-}
-
 impl SlotReceiver {
     // The numbers that a sample works with.
-    pub(crate) fn valid(self) -> SlotReceiver
-        ensures { (next : ℤ) (s : Signal) → receiver_from result next s ≡ valid (receiver_from self next s) }
+    pub(crate) fn make_valid(&mut self)
+        ensures { (next : ℤ) (s : Signal) → receiver_from self.new next s ≡ valid (receiver_from self.old next s) }
     {
-        let reference = valid_time(self.reference_time, FAR_REFERENCE);
-        let ready = valid_time(self.slot_ready_time, FAR_READY);
-        let slot = TdmaTime(self.current_slot.to_int());
-        let misses = valid_misses(self.slots_since_last_valid_burst);
-        let mut d = self;
-        d.reference_time = reference;
-        d.slot_ready_time = ready;
-        d.current_slot = slot;
-        d.slots_since_last_valid_burst = misses;
-        d
+        self.reference_time = valid_time(self.reference_time, FAR_REFERENCE);
+        self.slot_ready_time = valid_time(self.slot_ready_time, FAR_READY);
+        self.current_slot = TdmaTime(self.current_slot.to_int());
+        self.slots_since_last_valid_burst = self.slots_since_last_valid_burst.min(LOST);
     }
 }

@@ -1,0 +1,30 @@
+// The numbers that a receiver's modes are stored as.
+ghost use Rattle.std.specs.Prelude.{◌≡◌};
+ghost use Rattle.slot_receiver.specs.View.{mode_of, mode_number};
+
+use crate::{Mode, SlotReceiver};
+
+impl Mode {
+    // The number that a receiver stores for it.
+    #[tactic(auto, unfolding(crate::specs::View::mode_number))]
+    pub fn number(self) -> u8
+        ensures { result ≡ mode_number self }
+    {
+        self as u8
+    }
+}
+
+impl SlotReceiver {
+    // The mode that is stored; any number that is none's counts as an idle receiver's.
+    #[tactic(auto, unfolding(crate::specs::View::mode_of))]
+    pub fn mode(&self) -> Mode
+        ensures { result ≡ mode_of self.now.mode }
+    {
+        match self.mode {
+            1 => Mode::DlUnsynchronized,
+            2 => Mode::Dl,
+            3 => Mode::Ul,
+            _ => Mode::Idle,
+        }
+    }
+}
