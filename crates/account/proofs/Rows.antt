@@ -2,11 +2,11 @@
 use mathlib.Core.Path.{◌≡◌, refl, sym, ap, ◌∙◌}
 use mathlib.Core.Bool.{Bool, true, false, cond}
 use mathlib.Core.List.{List, [], ◌∷◌, ◌++◌, append_assoc, append-nil}
-use Prim.Native.Nat.{ℕ, zero, suc, ◌+◌, ◌*◌, ◌≤◌, ◌<◌}
+use Prim.Native.Nat.{ℕ, zero, suc, ◌+◌, ◌*◌, ◌≤◌, min}
 use native.Mathlib.Omega.{arith}
 use lib.IntN.{ℤ, pos, negsuc}
 use lib.Signed.{mag, lt_z}
-use lib.ListN.{length, get_or, take, drop, set, replicate, length-append, drop_of_length-le}
+use lib.ListN.{length, get_or, take, drop, replicate, length-append, length-replicate, drop_of_length-le}
 use lib.Seq.{take_at, drop-append-add, drop-drop}
 use Rattle.rx_slot.specs.declared.RxBurst.{RxBurst}
 use Rattle.rx_slot.specs.declared.RxSlot.{RxSlot}
@@ -30,6 +30,12 @@ unfolding padded
 padded_behind n [] h = sym (padded_none n)
 padded_behind zero (b ∷ bits) h = absurd (omega arith)
 padded_behind (suc n) (b ∷ bits) h = ap (λ (l : List ℕ). b ∷ l) (padded_behind n bits (omega arith))
+
+-- .. so many of one
+pub sevens_lem : (k n : ℕ) (s : List ℕ) → k ≡ min n 1024 → s ≡ replicate k 7 → s ++ drop k (replicate 1024 0) ≡ padded 1024 (replicate (min n 1024) 7)
+sevens_lem k n s e f =
+    let h : length (replicate {A = ℕ} k 7) ≡ k = length-replicate {A = ℕ} k 7 in
+    rw (f, ← e) (rw h at (padded_behind 1024 (replicate {A = ℕ} k 7) (omega arith)))
 
 -- others in the bits' place
 pub padded_over : (n : ℕ) (bits others : List ℕ) → length bits ≤ n → length others ≡ length bits → others ++ drop (length bits) (padded n bits) ≡ padded n others

@@ -1,8 +1,8 @@
 -- The calls that `run_calls` makes, one by one: laws that its code goes by. Assumes nothing.
 use mathlib.Core.Path.{◌≡◌, refl, sym, ap, ◌∙◌}
 use Prim.Native.Nat.{ℕ, zero, suc, ◌+◌, ◌*◌, ◌/◌, ◌≤◌, ◌<◌, min}
-use native.Mathlib.Nat.{min-le_right}
-use Rattle.std.proofs.lemmas.List.{take_more, reverse-append, length-reverse, map-append, length-map, length-take}
+use native.Mathlib.Nat.{min-le_right, min_comm}
+use Rattle.std.proofs.lemmas.List.{take_more, take_min, get_or-take, reverse-append, length-reverse, map-append, length-map, length-take}
 use native.Mathlib.Omega.{arith}
 use native.Mathlib.Numerals.{add-one}
 use mathlib.Core.List.{List, [], ◌∷◌, ◌++◌}
@@ -148,19 +148,38 @@ pub record Enough (calls told lent n : ℕ) : Type 0 where
   pub of_told : row_length * n ≤ told
   pub of_lent : 3072 * n ≤ lent
 
-pub enough : (calls told lent n : ℕ) → n ≡ min calls (room_in told lent) → Enough calls told lent n
+pub enough : (calls told lent n room : ℕ) → n ≡ min calls room → room ≡ room_in told lent → Enough calls told lent n
 unfolding room_in
-enough calls told lent n p = record { of_calls = omega arith; of_told = omega arith; of_lent = omega arith }
+enough calls told lent n room p q =
+    let m : room ≡ min (told / row_length) (lent / 3072) = q in
+    record { of_calls = omega arith; of_told = omega arith; of_lent = omega arith }
 
 module _ (other : Receiver) (calls : List Declared.Call) where
   length_calls : (n : ℕ) → n ≤ length calls → length (calls_in other calls n) ≡ n
   unfolding calls_in
   length_calls n h = simp (length-reverse, length-map, length-take) (omega arith)
 
-  none_made : {r : Receiver} (told lent : List ℕ) → r ≡ new DlUnsynchronized → Written (calls_in other calls 0) r told told lent lent
+  next_call : (i : ℕ) (d : Declared.Call) → i < length calls → calls_in other calls (i + 1) ≡ call_of other (get_or calls i d) ∷ calls_in other calls i
+  unfolding calls_in
+  next_call i d h = rw (take_more calls i d h, map-append, reverse-append)
+
+  pub none_made : {r : Receiver} (told lent : List ℕ) → r ≡ new DlUnsynchronized → Written (calls_in other calls 0) r told told lent lent
   unfolding calls_in
   none_made told lent e = rw e (none told lent)
 
-  one_call_more : (i : ℕ) (d : Declared.Call) → i < length calls → calls_in other calls (i + 1) ≡ call_of other (get_or calls i d) ∷ calls_in other calls i
+  -- the call that a loop over the first n reads
+  pub one_more : {r r' : Receiver} {row bytes told₀ told told' lent₀ lent lent' : List ℕ} (i n : ℕ) (d : Declared.Call) → i < n → n ≤ length calls
+      → Written (calls_in other calls i) r told₀ told lent₀ lent → Makes r (call_of other (get_or (take n calls) i d)) r' row bytes
+      → told' ≡ take (row_length * i) told ++ row ++ drop (row_length * i + length row) told
+      → lent' ≡ take (3072 * i) lent ++ bytes ++ drop (3072 * i + length bytes) lent
+      → Written (calls_in other calls (i + 1)) r' told₀ told' lent₀ lent'
+  one_more i n d h g w m p q =
+      let k = length_calls i (omega arith) in
+      let c : Call = call_of other (get_or calls i d) in
+      let m' = rw (get_or-take n calls i d h) at m in
+      rw (next_call i d (omega arith)) (more c (calls_in other calls i) w m' (rw k p) (rw k q))
+
+  pub all_made : {r : Receiver} {told told' lent lent' : List ℕ} (i n room : ℕ) → Written (calls_in other calls i) r told told' lent lent' → i ≡ n
+      → n ≡ min (length calls) room → Ran (calls_in other calls room) r told told' lent lent'
   unfolding calls_in
-  one_call_more i d h = simp (take_more calls i d h, map-append, reverse-append)
+  all_made i n room w e f = ran _ (rw (e, f, min_comm (length calls) room, take_min room calls) at w)

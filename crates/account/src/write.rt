@@ -1,6 +1,7 @@
 // What a call answers, and the bytes lent to it, in rows of numbers and of bytes.
-ghost use Rattle.std.specs.Prelude.{◌≡◌, ◌∷◌, replicate};
-ghost use Rattle.slot_receiver.specs.Calls.{took, reply_of, take_reply_of, in_numbers};
+ghost use Rattle.std.specs.Prelude.{◌≡◌, ◌++◌, ◌+◌, ◌≤◌, length, take, drop};
+ghost use Rattle.dsp_types.specs.Answers.{number_of};
+ghost use Rattle.slot_receiver.specs.Calls.{refused, took, reply_of, take_reply_of, in_numbers};
 ghost use Rattle.rx_slot.specs.Views.{padded};
 ghost use Rattle.account.specs.Runs.{lent_bytes, row_of};
 
@@ -23,11 +24,11 @@ pub(crate) fn sevens(n: usize) -> [u8; 1024]
     bytes
 }
 
-// The row of an answer without a slot.
-fn short_row(kind: u64, refusal: u64) -> [u64; ROW]
-    ensures { result ≡ kind ∷ refusal ∷ replicate 14 0 }
+#[tactic(auto, unfolding(crate::specs::Runs::row_of))]
+fn refused_row(refusal: Refusal) -> [u64; ROW]
+    ensures { result ≡ row_of (refused (number_of refusal)) }
 {
-    [kind, refusal, 0, 0, 0, 0, 0, 0, 0, 0, 0, 0, 0, 0, 0, 0]
+    [0, u64::from(refusal.number()), 0, 0, 0, 0, 0, 0, 0, 0, 0, 0, 0, 0, 0, 0]
 }
 
 #[tactic(auto, unfolding(crate::specs::Runs::row_of, slot_receiver::specs::Calls::in_numbers, slot_receiver::specs::Calls::reply_of))]
@@ -35,8 +36,8 @@ pub(crate) fn answer_row(answer: Result<(), Refusal>) -> [u64; ROW]
     ensures { result ≡ row_of (in_numbers (reply_of answer)) }
 {
     match answer {
-        Ok(()) => short_row(1, 0),
-        Err(refusal) => short_row(0, u64::from(refusal.number())),
+        Ok(()) => [1, 0, 0, 0, 0, 0, 0, 0, 0, 0, 0, 0, 0, 0, 0, 0],
+        Err(refusal) => refused_row(refusal),
     }
 }
 
@@ -70,6 +71,14 @@ pub(crate) fn take_row(answer: Result<RxSlot, Refusal>) -> [u64; ROW]
 {
     match answer {
         Ok(slot) => slot_row(slot),
-        Err(refusal) => short_row(0, u64::from(refusal.number())),
+        Err(refusal) => refused_row(refusal),
     }
+}
+
+// Writes a row from `to` on.
+pub(crate) fn write<T: Copy>(row: &[T], out: &mut [T], to: usize)
+    requires { to + length row.now ≤ length out.old }
+    ensures { out.new ≡ take to out.old ++ row.now ++ drop (to + length row.now) out.old }
+{
+    out[to..to + row.len()].copy_from_slice(row);
 }
