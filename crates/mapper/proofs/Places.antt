@@ -1,51 +1,25 @@
 -- What is due, by the tests that the code makes. Assumes nothing.
-use mathlib.Core.Path.{◌≡◌, refl, sym, ◌∙◌}
-use mathlib.Core.Bool.{Bool, true, false, not, true≢false}
+use mathlib.Core.Path.{◌≡◌, refl, sym, ap, ◌∙◌}
+use mathlib.Core.Bool.{Bool, true, false, true≢false}
 use Prim.Native.Nat.{ℕ, zero, suc, ◌+◌, ◌-◌, ◌*◌, ◌/◌, ◌%◌, ◌<◌, ◌≤◌}
 use native.Mathlib.Omega.{arith}
 use mathlib.Core.List.{List}
-use lib.Dec.{eqb}
-use lib.IntN.{ℤ, pos, negsuc, ◌-ℤ◌}
-use lib.ListN.{get_or, length, get_or-eq_default}
+use Rattle.std.specs.Prelude.{Option, Some, None, Result, Ok, Err}
+use lib.IntN.{ℤ, pos, negsuc, ◌+ℤ◌, ◌-ℤ◌}
 use lib.Signed.{mag}
 use borrow.Author.Tests.{ltb-false, lt-ltb, le-ltb, eq-eqb, ne_eqb}
 use Rattle.dsp_types.proofs.IntLaws.{less, same}
-use Rattle.dsp_types.specs.Refusals.{last_counter, out_of_count, wrong_length, not_bits}
+use Rattle.dsp_types.specs.Refusals.{last_counter, out_of_count}
+use Rattle.dsp_types.specs.declared.refusals.Refusal.{Refusal}
+use Rattle.dsp_types.specs.declared.refusals.Refusal.TheVariants.{BadSample, BadCounter, BadLength, BadBit, BadTraining, BadSlot, BadKind, PastCounter, NoSlot, NeedMoreData, NotFollowing}
+use Rattle.dsp_types.specs.Answers.{number_of}
 use Rattle.mapper.specs.declared.Due.{Due}
-use Rattle.mapper.specs.declared.Due.TheVariants.{Refused, Silence, Symbol}
-use Rattle.mapper.specs.Due.{bits_refusal, slot_refusal, input_refusal, bit_at, symbol_due, due_in, due_at, due_if}
-
--- ---- refusals from the input
-
-module _ (bits : List ℕ) where
-  pub no_bits : (b : Bool) → b ≡ false → 0 ≡ bits_refusal b bits
-  unfolding bits_refusal
-  no_bits true e = absurd (true≢false e)
-  no_bits false e = refl
-
-  pub wrong_bits : (b : Bool) → b ≡ true → (length bits ≡ 510 → ⊥) → 3 ≡ bits_refusal b bits
-  unfolding bits_refusal wrong_length
-  wrong_bits true e h = rw (ne_eqb (length bits) 510 h)
-  wrong_bits false e h = absurd (true≢false (sym e))
-
-  pub bad_bits : (b : Bool) → b ≡ true → length bits ≡ 510 → not_bits bits ≡ true → 4 ≡ bits_refusal b bits
-  unfolding bits_refusal wrong_length
-  bad_bits true e h k = rw (eq-eqb (length bits) 510 h, k)
-  bad_bits false e h k = absurd (true≢false (sym e))
-
-  pub good_bits : (b : Bool) → b ≡ true → length bits ≡ 510 → not_bits bits ≡ false → 0 ≡ bits_refusal b bits
-  unfolding bits_refusal wrong_length
-  good_bits true e h k = rw (eq-eqb (length bits) 510 h, k)
-  good_bits false e h k = absurd (true≢false (sym e))
-
-pub refused_bits : (slot n : ℕ) → (n ≡ 0 → ⊥) → n ≡ slot_refusal slot n
-unfolding slot_refusal
-refused_bits slot zero h = absurd (h refl)
-refused_bits slot (suc n) h = refl
+use Rattle.mapper.specs.declared.Due.TheVariants.{Silence, Symbol}
+use Rattle.mapper.specs.Due.{bits_refusal, slot_refusal, input_refusal, bit_at, symbol_due, due_in, start_of, place_in, due_at, due_if, due_of}
 
 -- ---- what an accepted call has
 
-module _ (c : ℤ) (slot : ℕ) (b : Bool) (bits : List ℕ) (h : input_refusal c slot b bits ≡ 0) where
+module _ (c : ℤ) (slot : ℕ) (bits : Option (List ℕ)) (h : input_refusal c slot bits ≡ 0) where
   counted : out_of_count c ≡ false
   unfolding input_refusal
   counted = go (out_of_count c) refl
@@ -62,7 +36,7 @@ module _ (c : ℤ) (slot : ℕ) (b : Bool) (bits : List ℕ) (h : input_refusal 
       go (pos n) e = (refl, omega (arith, ltb-false last_counter n e))
       go (negsuc n) e = absurd (true≢false e)
 
-  pub slot_accepted : slot_refusal slot (bits_refusal b bits) ≡ 0
+  pub slot_accepted : slot_refusal slot (bits_refusal bits) ≡ 0
   unfolding input_refusal
   slot_accepted = rw counted at h
 
@@ -75,60 +49,64 @@ module _ (n start : ℕ) where
   place_within : start ≤ n → pos n -ℤ pos start ≡ pos (n - start)
   place_within h = same _ _ (omega (arith, less (pos n) (pos start)))
 
-  module _ (b : Bool) (bits : List ℕ) where
-    pub early : n < start → Silence ≡ due_at b bits (pos n -ℤ pos start)
+  module _ (bits : Option (List ℕ)) where
+    pub early : n < start → Ok Silence ≡ due_at bits (pos n -ℤ pos start)
     unfolding due_at
     early h = rw (place_early h)
 
-    pub late : start ≤ n → 1020 ≤ n - start → Refused 12 ≡ due_at b bits (pos n -ℤ pos start)
+    pub late : start ≤ n → 1020 ≤ n - start → Err 12 ≡ due_at bits (pos n -ℤ pos start)
     unfolding due_at
     late h k = rw (place_within h, le-ltb (n - start) 1020 k)
 
-    pub within : start ≤ n → n - start < 1020 → due_at b bits (pos n -ℤ pos start) ≡ due_in b bits (n - start)
+    pub within : start ≤ n → n - start < 1020 → due_at bits (pos n -ℤ pos start) ≡ Ok (due_in bits (n - start))
     unfolding due_at
     within h k = rw (place_within h, lt-ltb (n - start) 1020 k)
 
-absent_in : (b : Bool) (bits : List ℕ) (p : ℕ) → b ≡ false → Silence ≡ due_in b bits p
-unfolding due_in
-absent_in true bits p e = absurd (true≢false e)
-absent_in false bits p e = refl
+module _ (n start : ℕ) (h : start ≤ n) (k : n - start < 1020) where
+  pub absent : Ok Silence ≡ due_at None (pos n -ℤ pos start)
+  unfolding due_in
+  absent = sym (within n start None h k)
 
-between_in : (b : Bool) (bits : List ℕ) (p : ℕ) → b ≡ true → (p % 4 ≡ 0 → ⊥) → Silence ≡ due_in b bits p
-unfolding due_in
-between_in true bits p e h = rw (ne_eqb (p % 4) 0 h)
-between_in false bits p e h = absurd (true≢false (sym e))
+  module _ (bits : List ℕ) where
+    pub between : ((n - start) % 4 ≡ 0 → ⊥) → Ok Silence ≡ due_at (Some bits) (pos n -ℤ pos start)
+    unfolding due_in
+    between f = rw (within n start (Some bits) h k, ne_eqb ((n - start) % 4) 0 f)
 
-symbol_in : (b : Bool) (bits : List ℕ) (p : ℕ) → b ≡ true → p % 4 ≡ 0 → symbol_due bits p ≡ due_in b bits p
-unfolding due_in
-symbol_in true bits p e h = rw (eq-eqb (p % 4) 0 h)
-symbol_in false bits p e h = absurd (true≢false (sym e))
+    pub symbol : (n - start) % 4 ≡ 0 → (i : ℕ) → i ≡ (n - start) / 4 * 2
+        → Ok (Symbol (bit_at bits i) (bit_at bits (i + 1))) ≡ due_at (Some bits) (pos n -ℤ pos start)
+    unfolding due_in symbol_due
+    symbol f i g =
+        let j : i ≡ 2 * ((n - start) / 4) = omega (arith, g) in
+        rw (j, within n start (Some bits) h k, eq-eqb ((n - start) % 4) 0 f)
 
-module _ (n start : ℕ) (b : Bool) (bits : List ℕ) (h : start ≤ n) (k : n - start < 1020) where
-  pub absent : b ≡ false → Silence ≡ due_at b bits (pos n -ℤ pos start)
-  absent e = absent_in b bits _ e ∙ sym (within n start b bits h k)
+-- ---- what is due in a call
 
-  pub between : b ≡ true → ((n - start) % 4 ≡ 0 → ⊥) → Silence ≡ due_at b bits (pos n -ℤ pos start)
-  between e f = between_in b bits _ e f ∙ sym (within n start b bits h k)
+-- a refusal's number is not 0
+pub some_number : (r : Refusal) → 1 ≤ number_of r
+some_number BadSample = omega arith
+some_number BadCounter = omega arith
+some_number BadLength = omega arith
+some_number BadBit = omega arith
+some_number BadTraining = omega arith
+some_number BadSlot = omega arith
+some_number BadKind = omega arith
+some_number PastCounter = omega arith
+some_number NoSlot = omega arith
+some_number NeedMoreData = omega arith
+some_number NotFollowing = omega arith
 
-  pub symbol : b ≡ true → (n - start) % 4 ≡ 0 → (i : ℕ) → i ≡ (n - start) / 4 * 2
-      → Symbol (bit_at bits i) (bit_at bits (i + 1)) ≡ due_at b bits (pos n -ℤ pos start)
-  unfolding symbol_due
-  symbol e f i g =
-      let j : i ≡ 2 * ((n - start) / 4) = omega (arith, g) in
-      rw j (symbol_in b bits _ e f ∙ sym (within n start b bits h k))
-
-pub refused : (n : ℕ) (d : Due) → (n ≡ 0 → ⊥) → Refused n ≡ due_if n d
+refused_if : (n : ℕ) (d : Result Due ℕ) → 1 ≤ n → Err n ≡ due_if n d
 unfolding due_if
-refused zero d h = absurd (h refl)
-refused (suc n) d h = refl
+refused_if zero d h = absurd (omega arith)
+refused_if (suc n) d h = refl
 
--- ---- a bit
+module _ (c : ℤ) (slot : ℕ) (bits : Option (List ℕ)) where
+  pub refused : (r : Refusal) → number_of r ≡ input_refusal c slot bits → Err (number_of r) ≡ due_of c slot bits
+  unfolding due_of
+  refused r e = rw (← e) (refused_if (number_of r) _ (some_number r))
 
-module _ (bits : List ℕ) (i : ℕ) where
-  pub there : not (eqb (get_or bits i 0) 0) ≡ bit_at bits i
-  unfolding bit_at
-  there = refl
-
-  pub missing : length bits ≤ i → false ≡ bit_at bits i
-  unfolding bit_at
-  missing h = rw (get_or-eq_default bits 0 h)
+  pub accepted : (d : Result Due ℕ) (n start : ℕ) → 0 ≡ input_refusal c slot bits → n ≡ mag c → start ≡ start_of slot → d ≡ due_at bits (pos (n + 16) -ℤ pos start) → d ≡ due_of c slot bits
+  unfolding due_of due_if place_in
+  accepted d n start e f g h =
+      let m : pos n ≡ c = ap pos f ∙ sym (accepted_count c slot bits (sym e)).0 in
+      rw (← e) (h ∙ (λ i. due_at bits (m i +ℤ pos 16 -ℤ pos (g i))))

@@ -1,12 +1,12 @@
 -- The mapper (01, "Burst bits", "The sender"; modulator.rs, `DqpskMapper::symbol`): phases in eighths of a turn, and their points. Definitions only.
-use Rattle.std.specs.Prelude.{ℕ, ◌+◌, ◌%◌, Bool, List, [], ◌∷◌, get_or, Float}
+use Rattle.std.specs.Prelude.{ℕ, ◌+◌, ◌%◌, Bool, List, [], ◌∷◌, get_or, Result, Ok, Err, Float}
 use Rattle.std.specs.Float.{binary32, nan}
 use Rattle.std.specs.Float.Ieee.{of_bits}
 use Rattle.dsp_types.specs.declared.ComplexSample.{ComplexSample}
 use Rattle.dsp_types.specs.Phases.{bit_of, phase_of, modulo8}
 use Rattle.dsp_types.specs.Samples.{silence}
 use Rattle.mapper.specs.declared.Due.{Due}
-use Rattle.mapper.specs.declared.Due.TheVariants.{Refused, Silence, Symbol}
+use Rattle.mapper.specs.declared.Due.TheVariants.{Silence, Symbol}
 
 -- the phase of a symbol's two bits, modulo 8 (01, "The sender")
 unfoldable pub turn_of : Bool → Bool → ℕ
@@ -37,13 +37,13 @@ point_of phase = record { re = get_or points_re (phase % 8) nan; im = get_or poi
 -- ---- one call of the sender
 
 -- the phase after what is due: a symbol steps it
-unfoldable pub phase_after : ℕ → Due → ℕ
-phase_after phase (Refused n) = phase
-phase_after phase Silence = phase
-phase_after phase (Symbol bit0 bit1) = next_phase phase bit0 bit1
+unfoldable pub phase_after : ℕ → Result Due ℕ → ℕ
+phase_after phase (Err n) = phase
+phase_after phase (Ok Silence) = phase
+phase_after phase (Ok (Symbol bit0 bit1)) = next_phase phase bit0 bit1
 
 -- what is fed to the filter, where this is the phase after what is due
-unfoldable pub input_of : ℕ → Due → ComplexSample
-input_of phase (Refused n) = silence
-input_of phase Silence = silence
-input_of phase (Symbol bit0 bit1) = point_of phase
+unfoldable pub input_of : ℕ → Result Due ℕ → ComplexSample
+input_of phase (Err n) = silence
+input_of phase (Ok Silence) = silence
+input_of phase (Ok (Symbol bit0 bit1)) = point_of phase

@@ -1,108 +1,95 @@
 // What is due in a call of the sender.
 ghost use Rattle.std.specs.Prelude.{◌≡◌, ◌<◌, ◌^◌, pos, ◌-ℤ◌};
-ghost use Rattle.mapper.specs.Due.{bits_refusal, input_refusal, start_of, bit_at, due_at, due_of, due_refusal};
+ghost use Rattle.std.specs.Option.{option_copied};
+ghost use Rattle.dsp_types.specs.Answers.{answer_number};
+ghost use Rattle.mapper.specs.Due.{bits_refusal, input_refusal, start_of, bit_at, due_at, due_of, numbered};
 
 use crate::Due;
-use dsp_types::{
-    ACCEPTED, BAD_BIT, BAD_COUNTER, BAD_LENGTH, BAD_SLOT, LAST_SLOT, NEED_MORE_DATA, SampleCount,
-    TdmaTime,
-};
+use dsp_types::{LAST_SLOT, Refusal, SampleCount, TdmaTime};
 
-fn bits_refusal(has_bits: bool, bits: &[u8]) -> u32
-    ensures { result ≡ bits_refusal has_bits bits.now }
-{
-    if !has_bits {
-        return ACCEPTED;
-    }
-    if bits.len() != 510 {
-        return BAD_LENGTH;
-    }
-    if dsp_types::not_bits(bits) {
-        return BAD_BIT;
-    }
-    ACCEPTED
+// A slot: the counter of its first sample, and its bits, where it has any.
+#[derive(Clone, Copy)]
+pub struct SlotToSend<'a> {
+    pub start: u64,
+    pub bits: Option<&'a [u8]>,
 }
 
-fn input_refusal(counter: i64, slot: u32, has_bits: bool, bits: &[u8]) -> u32
-    ensures { result ≡ input_refusal counter slot has_bits bits.now }
+#[tactic(auto, unfolding(crate::specs::Due::bits_refusal, dsp_types::specs::Refusals::wrong_length))]
+fn check_bits(bits: Option<&[u8]>) -> Result<(), Refusal>
+    ensures { answer_number result ≡ bits_refusal (option_copied bits.entry) }
 {
-    if SampleCount(counter).is_out_of_count() {
-        return BAD_COUNTER;
+    let Some(bits) = bits else {
+        return Ok(());
+    };
+    if bits.len() != 510 {
+        return Err(Refusal::BadLength);
     }
-    let refusal = bits_refusal(has_bits, bits);
-    if refusal != ACCEPTED {
-        return refusal;
+    if dsp_types::not_bits(bits) {
+        return Err(Refusal::BadBit);
     }
-    if LAST_SLOT < slot {
-        return BAD_SLOT;
+    Ok(())
+}
+
+#[tactic(auto, unfolding(crate::specs::Due::input_refusal, crate::specs::Due::slot_refusal))]
+fn check_input(counter: SampleCount, slot: TdmaTime, bits: Option<&[u8]>) -> Result<(), Refusal>
+    ensures { answer_number result ≡ input_refusal counter.0 slot.0 (option_copied bits.entry) }
+{
+    if counter.is_out_of_count() {
+        return Err(Refusal::BadCounter);
     }
-    ACCEPTED
+    check_bits(bits)?;
+    if LAST_SLOT < slot.0 {
+        return Err(Refusal::BadSlot);
+    }
+    Ok(())
 }
 
 // The counter of a slot's first sample. Its bound keeps the slot's end from wrapping.
+#[tactic(auto, unfolding(crate::specs::Due::start_of))]
 pub fn start_of(slot: TdmaTime) -> u64
     ensures { (result ≡ start_of slot.0) × (result < 2 ^ 42) }
 {
-    slot.0 as u64 * 1020
+    u64::from(slot.0) * 1020
 }
 
 // Whether bit i is 1. One that is missing counts as 0.
+#[tactic(auto, unfolding(crate::specs::Due::bit_at))]
 fn bit(bits: &[u8], i: usize) -> bool
     ensures { result ≡ bit_at bits.now i }
 {
-    if i < bits.len() { bits[i] != 0 } else { false }
+    bits.get(i).is_some_and(|bit| *bit != 0)
 }
 
-// What is due at a count of samples, the filter's delay among them, in a slot that starts there.
-#[tactic(auto, using(crate::proofs::Places::early, crate::proofs::Places::late, crate::proofs::Places::absent, crate::proofs::Places::between))]
-pub fn due_at(count: u64, start: u64, has_bits: bool, bits: &[u8]) -> Due
-    ensures { result ≡ due_at has_bits bits.now (pos count -ℤ pos start) }
-{
-    if count < start {
-        return Due::Silence;
+impl SlotToSend<'_> {
+    // What is due at a count of samples, the filter's delay among them.
+    #[tactic(auto, using(crate::proofs::Places::early, crate::proofs::Places::late, crate::proofs::Places::absent, crate::proofs::Places::between, crate::proofs::Places::symbol))]
+    pub fn due_at(self, count: u64) -> Result<Due, Refusal>
+        ensures { numbered result ≡ due_at (option_copied self.entry.bits) (pos count -ℤ pos self.entry.start) }
+    {
+        if count < self.start {
+            return Ok(Due::Silence);
+        }
+        let place = count - self.start;
+        if 1020 <= place {
+            return Err(Refusal::NeedMoreData);
+        }
+        let Some(bits) = self.bits else {
+            return Ok(Due::Silence);
+        };
+        if place % 4 != 0 {
+            return Ok(Due::Silence);
+        }
+        let i = (place / 4 * 2) as usize;
+        Ok(Due::Symbol(bit(bits, i), bit(bits, i + 1)))
     }
-    let place = count - start;
-    if 1020 <= place {
-        return Due::Refused(NEED_MORE_DATA);
-    }
-    if !has_bits {
-        return Due::Silence;
-    }
-    if place % 4 != 0 {
-        return Due::Silence;
-    }
-    let i = (place / 4 * 2) as usize;
-    // One test for both bits, at each symbol of a slot; `bit` is for a slice that ends before them.
-    if i + 1 < bits.len() {
-        return Due::Symbol(bits[i] != 0, bits[i + 1] != 0);
-    }
-    Due::Symbol(bit(bits, i), bit(bits, i + 1))
 }
 
 // The filter's delay of 16 samples is made up for.
-pub fn due_now(counter: SampleCount, slot: TdmaTime, has_bits: bool, bits: &[u8]) -> Due
-    ensures { result ≡ due_of counter.0 slot.0 has_bits bits.now }
+#[tactic(auto, using(crate::proofs::Places::refused, crate::proofs::Places::accepted))]
+pub fn due_now(counter: SampleCount, slot: TdmaTime, bits: Option<&[u8]>) -> Result<Due, Refusal>
+    ensures { numbered result ≡ due_of counter.0 slot.0 (option_copied bits.entry) }
 {
-    let refusal = input_refusal(counter.0, slot.0, has_bits, bits);
-    if refusal != ACCEPTED {
-        return Due::Refused(refusal);
-    }
-    due_at(
-        dsp_types::unsigned(counter.0) + 16,
-        start_of(slot),
-        has_bits,
-        bits,
-    )
-}
-
-// The number by which a call is refused, or 0.
-pub fn refusal_now(counter: SampleCount, slot: TdmaTime, has_bits: bool, bits: &[u8]) -> u32
-    ensures { result ≡ due_refusal (due_of counter.0 slot.0 has_bits bits.now) }
-{
-    let due = due_now(counter, slot, has_bits, bits);
-    match due {
-        Due::Refused(number) => number,
-        Due::Silence => ACCEPTED,
-        Due::Symbol(_, _) => ACCEPTED,
-    }
+    check_input(counter, slot, bits)?;
+    let start = start_of(slot);
+    SlotToSend { start, bits }.due_at(dsp_types::unsigned(counter.0) + 16)
 }

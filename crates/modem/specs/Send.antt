@@ -1,13 +1,13 @@
 -- The sender's calls, in numbers (01, "The sender"). Definitions only.
-use Rattle.std.specs.Prelude.{ℕ, Bool, not, List, [], ◌∷◌, eqb}
+use Rattle.std.specs.Prelude.{ℕ, cond, List, [], ◌∷◌, eqb, Option, Some, None}
 use Rattle.dsp_types.specs.declared.ComplexSample.{ComplexSample}
 use Rattle.dsp_types.specs.Samples.{silence}
 use Rattle.modulator.specs.Sender.{SenderReply, Sender, sender_of}
 use Rattle.modem.specs.declared.sender.TetraSender.{TetraSender}
 
--- bits are given where the number is not 0
-abbrev pub is_given : ℕ → Bool
-is_given n = not (eqb n 0)
+-- the bits that a slot is given, where the number is not 0
+abbrev pub bits_given : ℕ → List ℕ → Option (List ℕ)
+bits_given n bits = cond (eqb n 0) None (Some bits)
 
 -- the sender that a C program holds
 unfoldable pub sender_in : TetraSender → Sender

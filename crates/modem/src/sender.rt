@@ -1,12 +1,13 @@
 // The sender: its state and its phase record go in by value, and the next ones come back.
 ghost use Rattle.std.specs.Prelude.{◌≡◌, ◌/◌, length};
+ghost use Rattle.std.specs.Option.{option_copied};
 ghost use Rattle.mapper.specs.Due.{due_of};
 ghost use Rattle.modulator.specs.Sender.{sender_reply, new_sender, tells, sender_after};
-ghost use Rattle.modulator.specs.Blocks.{due_after, block_call, Wrote};
-ghost use Rattle.modem.specs.Send.{is_given, sender_in, sample_told};
+ghost use Rattle.modulator.specs.Blocks.{due_after, block_call, Wrote, end_number};
+ghost use Rattle.modem.specs.Send.{bits_given, sender_in, sample_told};
 
-use dsp_types::{ACCEPTED, SampleCount, TdmaTime};
-use modulator::{Answer, DqpskMapper, Modulator};
+use dsp_types::{ComplexSample, Refusal, SampleCount, TdmaTime, answer_number};
+use modulator::{DqpskMapper, Modulator};
 
 #[repr(C)]
 #[derive(Clone, Copy)]
@@ -34,40 +35,38 @@ pub struct TetraSentSample {
     pub sender: TetraSender,
 }
 
-// A sample's answer in numbers.
-#[derive(Clone, Copy)]
-struct Parts {
-    pub refusal: u32,
-    pub re: f32,
-    pub im: f32,
+// The bits of a slot, where has_bits is not 0.
+fn given(has_bits: u32, bits: &[u8]) -> Option<&[u8]>
+    ensures { option_copied result ≡ bits_given has_bits bits.now }
+{
+    if has_bits != 0 { Some(bits) } else { None }
 }
 
+// A refusal's sample is silence.
 #[tactic(auto, unfolding(modulator::specs::Sender::sender_reply, crate::specs::Send::first_or_silence, crate::specs::Send::sample_told))]
-fn told_parts(answer: Answer) -> Parts
-    ensures { (result.refusal ≡ (sender_reply answer).number) × (record { re = result.re; im = result.im } ≡ sample_told (sender_reply answer)) }
+fn sample_of(answer: Result<ComplexSample, Refusal>) -> ComplexSample
+    ensures { result ≡ sample_told (sender_reply answer) }
 {
-    match answer {
-        Answer::Sample { re, im } => Parts {
-            refusal: ACCEPTED,
-            re,
-            im,
-        },
-        Answer::Refused(refusal) => Parts {
-            refusal,
-            re: 0.0,
-            im: 0.0,
-        },
-    }
+    answer.unwrap_or(ComplexSample { re: 0.0, im: 0.0 })
+}
+
+// 0 where a block was refused nothing.
+fn refusal_number(refusal: Option<Refusal>) -> u32
+    ensures { result ≡ end_number refusal }
+{
+    refusal.map_or(0, Refusal::number)
 }
 
 // A new sender, at phase 0.
+#[tactic(auto, unfolding(modulator::specs::Sender::sender_of, modulator::specs::Sender::new_sender, crate::specs::Send::sender_in))]
 #[unsafe(no_mangle)]
 pub extern "C" fn tetra_sender_new() -> TetraSender
     ensures { sender_in result ≡ new_sender }
 {
-    let modulator = Modulator::new();
-    let mapper = DqpskMapper::new();
-    TetraSender { modulator, mapper }
+    TetraSender {
+        modulator: Modulator::new(),
+        mapper: DqpskMapper::new(),
+    }
 }
 
 // Sends one sample, or refuses and stays as it is. The bits count where has_bits is not 0.
@@ -79,29 +78,24 @@ pub extern "C" fn tetra_send_sample(
     has_bits: u32,
     bits: &[u8],
 ) -> TetraSentSample
-    ensures refusal { result.refusal ≡ (tells (sender_in sender) (due_of counter slot (is_given has_bits) bits.now)).number }
-    ensures sample { record { re = result.re; im = result.im } ≡ sample_told (tells (sender_in sender) (due_of counter slot (is_given has_bits) bits.now)) }
-    ensures sender { sender_in result.sender ≡ sender_after (sender_in sender) (due_of counter slot (is_given has_bits) bits.now) }
+    ensures refusal { result.refusal ≡ (tells (sender_in sender) (due_of counter slot (bits_given has_bits bits.now))).number }
+    ensures sample { record { re = result.re; im = result.im } ≡ sample_told (tells (sender_in sender) (due_of counter slot (bits_given has_bits bits.now))) }
+    ensures sender { sender_in result.sender ≡ sender_after (sender_in sender) (due_of counter slot (bits_given has_bits bits.now)) }
     ensures kept { (result.refusal ≡ 0 → ⊥) → result.sender ≡ sender }
 {
-    let state = sender.modulator;
-    let record = sender.mapper;
-    let stepped = state.step(
-        record,
+    let mut next = sender;
+    let answer = next.modulator.sample(
+        &mut next.mapper,
         SampleCount(counter),
         TdmaTime(slot),
-        has_bits != 0,
-        bits,
+        given(has_bits, bits),
     );
-    let answer = stepped.answer;
-    let modulator = stepped.modulator;
-    let mapper = stepped.mapper;
-    let told = told_parts(answer);
+    let told = sample_of(answer);
     TetraSentSample {
-        refusal: told.refusal,
+        refusal: answer_number(&answer),
         re: told.re,
         im: told.im,
-        sender: TetraSender { modulator, mapper },
+        sender: next,
     }
 }
 
@@ -116,25 +110,21 @@ pub extern "C" fn tetra_send(
     bits: &[u8],
     out: &mut [f32],
 ) -> TetraSent
-    ensures block { Wrote (block_call (due_after first slot (is_given has_bits) bits.now) (length out.old / 2) (sender_in sender))
+    ensures block { Wrote (block_call (due_after first slot (bits_given has_bits bits.now)) (length out.old / 2) (sender_in sender))
         result.count result.refusal (sender_in result.sender) out.old out.new }
     ensures kept { result.count ≡ 0 → result.sender ≡ sender }
 {
-    let state = sender.modulator;
-    let record = sender.mapper;
-    let sent = state.block(
-        record,
+    let mut next = sender;
+    let sent = next.modulator.block(
+        &mut next.mapper,
         SampleCount(first),
         TdmaTime(slot),
-        has_bits != 0,
-        bits,
+        given(has_bits, bits),
         out,
     );
-    let modulator = sent.modulator;
-    let mapper = sent.mapper;
     TetraSent {
         count: sent.count,
-        refusal: sent.refusal,
-        sender: TetraSender { modulator, mapper },
+        refusal: refusal_number(sent.refusal),
+        sender: next,
     }
 }

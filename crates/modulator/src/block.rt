@@ -1,82 +1,68 @@
 // A block of samples in one call, for gateways: what the calls one by one would send.
 ghost use Rattle.std.specs.Prelude.{◌≡◌, cond, ◌+◌, ◌*◌, ◌/◌, ◌≤◌, ◌<◌, ◌^◌, eqb, length, take};
+ghost use Rattle.std.specs.Option.{option_copied};
+ghost use Rattle.dsp_types.specs.Answers.{number_of};
 ghost use Rattle.dsp_types.specs.Refusals.{bad_counter, need_more_data, last_counter, counters};
 ghost use Rattle.fir.specs.Fir.{samples_of, start_with, re_of, im_of};
 ghost use Rattle.modulator.specs.Sender.{sender_of};
-ghost use Rattle.modulator.specs.Blocks.{due_after, block_call, parts_of, Wrote, place_due, inputs_of, phases_of, fed_block, left_of};
+ghost use Rattle.modulator.specs.Blocks.{due_after, block_call, parts_of, Wrote, slot_due, inputs_of, phases_of, fed_block, left_of, end_number};
 
 use crate::sender::Modulator;
-use dsp_types::{ACCEPTED, BAD_COUNTER, COUNTERS, NEED_MORE_DATA, SampleCount, TdmaTime, least};
-use mapper::{DqpskMapper, due_at, input, phase_after, refusal_now, start_of};
+use dsp_types::{COUNTERS, Refusal, SampleCount, TdmaTime};
+use mapper::{DqpskMapper, Due, SlotToSend, due_now, start_of};
 
 #[derive(Clone, Copy)]
 pub struct Sent {
     // How many samples were written.
     pub count: usize,
-    // 0, or the number by which the next sample was refused.
-    pub refusal: u32,
-    pub modulator: Modulator,
-    pub mapper: DqpskMapper,
+    // Why the next sample was refused, if it was.
+    pub refusal: Option<Refusal>,
 }
 
-// The sender after a piece of a block.
-#[derive(Clone, Copy)]
-struct Piece {
-    pub modulator: Modulator,
-    pub mapper: DqpskMapper,
-}
-
-// How many samples there are before the counter or the slot ends.
+// How many samples there are before the counter ends, or the slot that starts there.
+#[tactic(auto, unfolding(crate::specs::Blocks::left_of))]
 fn left(counter: u64, start: u64) -> usize
     requires { (counter ≤ last_counter) × (start < 2 ^ 42) }
     ensures { result ≡ left_of counter start }
 {
-    let end = start + 1020;
-    let counted = (COUNTERS - counter) as usize;
-    if end <= counter + 16 {
-        return 0;
-    }
-    least(counted, (end - (counter + 16)) as usize)
+    let counted = COUNTERS - counter;
+    let placed = (start + 1020).saturating_sub(counter + 16);
+    counted.min(placed) as usize
 }
 
 // The refusal of the sample behind them.
-fn end_refusal(counter: u64, left: usize) -> u32
+fn end_refusal(counter: u64, left: usize) -> Refusal
     requires { counter + left ≤ counters }
-    ensures { result ≡ cond (eqb (counter + left) counters) bad_counter need_more_data }
+    ensures { number_of result ≡ cond (eqb (counter + left) counters) bad_counter need_more_data }
 {
     if counter + left as u64 == COUNTERS {
-        BAD_COUNTER
+        Refusal::BadCounter
     } else {
-        NEED_MORE_DATA
+        Refusal::NeedMoreData
     }
 }
 
-// What is fed to the filter for so many samples, none of them refused; the phase after them is returned.
+// What is fed to the filter for so many samples, none of them refused. The phase steps with them.
+// By index: nothing is known of two rows that are written through one zip.
 fn fill(
     re: &mut [f32],
     im: &mut [f32],
     count: usize,
-    phase: u8,
+    mapper: &mut DqpskMapper,
     counter: u64,
-    start: u64,
-    has_bits: bool,
-    bits: &[u8],
-) -> u8
+    slot: SlotToSend,
+)
     requires { (count ≤ length re.old) × (count ≤ length im.old) × (counter + count ≤ counters) }
-    ensures { let due = place_due counter start has_bits bits.now in
-        (result ≡ phases_of due count 0 phase)
-        × ((take count re.new ≡ re_of (inputs_of due count 0 phase))
-        × (take count im.new ≡ im_of (inputs_of due count 0 phase))) }
+    ensures phase { mapper.new.phase ≡ phases_of (slot_due counter slot.entry) count 0 mapper.old.phase }
+    ensures re { take count re.new ≡ re_of (inputs_of (slot_due counter slot.entry) count 0 mapper.old.phase) }
+    ensures im { take count im.new ≡ im_of (inputs_of (slot_due counter slot.entry) count 0 mapper.old.phase) }
 {
-    let mut next = phase;
     for n in 0..count {
-        let due = due_at(counter + n as u64 + 16, start, has_bits, bits);
-        next = phase_after(next, due);
-        let x = input(next, due);
+        let due = slot.due_at(counter + n as u64 + 16).unwrap_or(Due::Silence);
+        let x = mapper.symbol(due);
         re[n] = x.re;
         im[n] = x.im;
     }
-    next
 }
 
 // Writes samples to the start of a buffer, re and im in turn.
@@ -84,8 +70,8 @@ fn interleave(re: &[f32], im: &[f32], out: &mut [f32])
     requires { (length re.now ≡ length im.now) × (2 * length re.now ≤ length out.old) }
     ensures { out.new ≡ start_with (parts_of (samples_of re.now im.now)) out.old }
 {
-    for n in 0..re.len() {
-        out[2 * n] = re[n];
+    for (n, x) in re.iter().enumerate() {
+        out[2 * n] = *x;
         out[2 * n + 1] = im[n];
     }
 }
@@ -93,110 +79,87 @@ fn interleave(re: &[f32], im: &[f32], out: &mut [f32])
 impl Modulator {
     // Sends at most 256 samples, none of them refused.
     fn piece(
-        self,
-        mapper: DqpskMapper,
+        &mut self,
+        mapper: &mut DqpskMapper,
         count: usize,
         counter: u64,
-        start: u64,
-        has_bits: bool,
-        bits: &[u8],
+        slot: SlotToSend,
         out: &mut [f32],
-    ) -> Piece
+    )
         requires { (count ≤ 256) × (2 * count ≤ length out.old) × (counter + count ≤ counters) }
-        ensures { Wrote (fed_block (place_due counter start has_bits bits.now) count 0 (sender_of self mapper))
-            count 0 (sender_of result.modulator result.mapper) out.old out.new }
+        ensures { Wrote (fed_block (slot_due counter slot.entry) count 0 (sender_of self.old mapper.old))
+            count 0 (sender_of self.new mapper.new) out.old out.new }
     {
         let mut re = [0.0f32; 256];
         let mut im = [0.0f32; 256];
-        let phase = fill(
-            &mut re,
-            &mut im,
-            count,
-            mapper.phase,
-            counter,
-            start,
-            has_bits,
-            bits,
-        );
+        fill(&mut re, &mut im, count, mapper, counter, slot);
         let mut out_re = [0.0f32; 256];
         let mut out_im = [0.0f32; 256];
-        let line = self.filter;
-        let filter = line.block(&re[..count], &im[..count], &mut out_re, &mut out_im);
+        self.filter
+            .block(&re[..count], &im[..count], &mut out_re, &mut out_im);
         interleave(&out_re[..count], &out_im[..count], out);
-        Piece {
-            modulator: Modulator { filter },
-            mapper: DqpskMapper { phase },
-        }
     }
 
-    // Sends so many samples, none of them refused, and tells the refusal behind them.
+    // Sends so many samples, none of them refused.
     fn send(
-        self,
-        mapper: DqpskMapper,
+        &mut self,
+        mapper: &mut DqpskMapper,
         count: usize,
-        refusal: u32,
         counter: u64,
-        start: u64,
-        has_bits: bool,
-        bits: &[u8],
+        slot: SlotToSend,
         out: &mut [f32],
-    ) -> Sent
+    )
         requires { (2 * count ≤ length out.old) × (counter + count ≤ counters) }
-        ensures { Wrote (fed_block (place_due counter start has_bits bits.now) count refusal (sender_of self mapper))
-            result.count result.refusal (sender_of result.modulator result.mapper) out.old out.new }
+        ensures wrote { Wrote (fed_block (slot_due counter slot.entry) count 0 (sender_of self.old mapper.old))
+            count 0 (sender_of self.new mapper.new) out.old out.new }
+        ensures kept { count ≡ 0 → (self.new ≡ self.old) × (mapper.new ≡ mapper.old) }
     {
-        let mut modulator = self;
-        let mut phase = mapper;
+        // Nothing is known of a buffer that is written through its chunks.
         let mut done: usize = 0;
         while done < count {
-            let n = least(256, count - done);
-            let at = counter + done as u64;
-            let next = modulator.piece(phase, n, at, start, has_bits, bits, &mut out[2 * done..]);
-            modulator = next.modulator;
-            phase = next.mapper;
-            done = done + n;
-        }
-        Sent {
-            count,
-            refusal,
-            modulator,
-            mapper: phase,
+            let n = (count - done).min(256);
+            self.piece(mapper, n, counter + done as u64, slot, &mut out[2 * done..]);
+            done += n;
         }
     }
 
     // As many samples as the buffer has room for, re and im in turn, or up to the first that is refused. What is behind
     // them in the buffer is left as it was. The first is refused whatever the room is.
+    #[tactic(auto, using(crate::proofs::Blocks::small_sent, crate::proofs::Blocks::left_sent))]
     pub fn block(
-        self,
-        mapper: DqpskMapper,
+        &mut self,
+        mapper: &mut DqpskMapper,
         sample_counter: SampleCount,
         slot: TdmaTime,
-        has_bits: bool,
-        bits: &[u8],
+        bits: Option<&[u8]>,
         out: &mut [f32],
     ) -> Sent
-        ensures block { let due = due_after sample_counter.0 slot.0 has_bits bits.now in
-            Wrote (block_call due (length out.old / 2) (sender_of self mapper))
-            result.count result.refusal (sender_of result.modulator result.mapper) out.old out.new }
-        ensures kept { result.count ≡ 0 → (result.modulator ≡ self) × (result.mapper ≡ mapper) }
+        ensures block { Wrote (block_call (due_after sample_counter.0 slot.0 (option_copied bits.entry)) (length out.old / 2) (sender_of self.old mapper.old))
+            result.count (end_number result.refusal) (sender_of self.new mapper.new) out.old out.new }
+        ensures kept { result.count ≡ 0 → (self.new ≡ self.old) × (mapper.new ≡ mapper.old) }
     {
-        let room = out.len() / 2;
-        let refusal = refusal_now(sample_counter, slot, has_bits, bits);
-        if (refusal != ACCEPTED) | (room == 0) {
+        if let Err(refusal) = due_now(sample_counter, slot, bits) {
             return Sent {
                 count: 0,
-                refusal,
-                modulator: self,
-                mapper,
+                refusal: Some(refusal),
             };
         }
+        let room = out.len() / 2;
         let counter = dsp_types::unsigned(sample_counter.0);
         let start = start_of(slot);
+        let slot = SlotToSend { start, bits };
         let left = left(counter, start);
         if room <= left {
-            return self.send(mapper, room, ACCEPTED, counter, start, has_bits, bits, out);
+            self.send(mapper, room, counter, slot, out);
+            return Sent {
+                count: room,
+                refusal: None,
+            };
         }
-        let end = end_refusal(counter, left);
-        self.send(mapper, left, end, counter, start, has_bits, bits, out)
+        self.send(mapper, left, counter, slot, out);
+        Sent {
+            count: left,
+            refusal: Some(end_refusal(counter, left)),
+        }
     }
 }

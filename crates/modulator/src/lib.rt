@@ -5,5 +5,5 @@ mod block;
 mod sender;
 
 pub use block::Sent;
-pub use mapper::{DqpskMapper, Due};
-pub use sender::{Answer, Modulator, Sampled, Stepped};
+pub use mapper::DqpskMapper;
+pub use sender::Modulator;

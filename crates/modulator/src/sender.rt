@@ -1,19 +1,14 @@
 // The sender: its pulse shaping filter, and one sample a call.
-ghost use Rattle.std.specs.Prelude.{◌≡◌, ◌∷◌, ℕ, take, replicate};
+ghost use Rattle.std.specs.Prelude.{◌≡◌, OnErr, replicate};
+ghost use Rattle.std.specs.Option.{option_copied};
 ghost use Rattle.dsp_types.specs.Samples.{silence};
 ghost use Rattle.fir.specs.Fir.{line_of};
 ghost use Rattle.mapper.specs.Due.{due_of};
-ghost use Rattle.modulator.specs.Sender.{sender_reply, shaped_of, told_of, next_line, sender_of, tells, sender_after};
+ghost use Rattle.modulator.specs.Sender.{sender_reply, sender_of, tells, sender_after};
 
-use dsp_types::{ComplexSample, SampleCount, TdmaTime};
+use dsp_types::{ComplexSample, Refusal, SampleCount, TdmaTime};
 use fir::FirComplexSym;
-use mapper::{DqpskMapper, Due, due_now};
-
-#[derive(Clone, Copy)]
-pub enum Answer {
-    Sample { re: f32, im: f32 },
-    Refused(u32),
-}
+use mapper::{DqpskMapper, due_now};
 
 #[repr(C)]
 #[derive(Clone, Copy)]
@@ -22,110 +17,29 @@ pub struct Modulator {
     pub filter: FirComplexSym,
 }
 
-#[derive(Clone, Copy)]
-pub struct Sampled {
-    pub answer: Answer,
-    pub modulator: Modulator,
-}
-
-#[derive(Clone, Copy)]
-pub struct Stepped {
-    pub answer: Answer,
-    pub modulator: Modulator,
-    pub mapper: DqpskMapper,
-}
-
-impl Sampled {
-    // The same answer and state, and the phase record.
-    fn beside(self, mapper: DqpskMapper) -> Stepped
-        ensures { result ≡ record { answer = self.answer; modulator = self.modulator; mapper = mapper } }
-    {
-        let answer = self.answer;
-        let modulator = self.modulator;
-        Stepped {
-            answer,
-            modulator,
-            mapper,
-        }
-    }
-}
-
 impl Modulator {
     pub fn new() -> Modulator
         ensures { line_of result.filter ≡ replicate 32 silence }
     {
-        let filter = FirComplexSym::new();
-        Modulator { filter }
-    }
-
-    // Sends one input through the filter.
-    fn shape(self, input: ComplexSample) -> Sampled
-        ensures { (sender_reply result.answer ≡ shaped_of (line_of self.filter) input)
-            × (line_of result.modulator.filter ≡ take 32 (input ∷ line_of self.filter)) }
-    {
-        let line = self.filter;
-        let filtered = line.sample(input);
-        let out = filtered.out;
-        let filter = filtered.line;
-        Sampled {
-            answer: Answer::Sample {
-                re: out.re,
-                im: out.im,
-            },
-            modulator: Modulator { filter },
+        Modulator {
+            filter: FirComplexSym::new(),
         }
     }
 
-    // Transmits what is due: its input goes through the filter. A refusal leaves the filter as it is.
-    fn transmit(self, due: Due, input: ComplexSample) -> Sampled
-        ensures { (sender_reply result.answer ≡ told_of (line_of self.filter) input due)
-            × (line_of result.modulator.filter ≡ next_line (line_of self.filter) input due)
-            × ((n : ℕ) → due ≡ Due.Refused n → result.modulator ≡ self) }
-    {
-        match due {
-            Due::Refused(number) => Sampled {
-                answer: Answer::Refused(number),
-                modulator: self,
-            },
-            Due::Silence => self.shape(input),
-            Due::Symbol(_, _) => self.shape(input),
-        }
-    }
-
-    // Produces one output sample, or refuses and changes nothing. Bits count where the slot has them.
+    // Produces one output sample, or refuses and changes nothing.
+    #[tactic(auto, unfolding(crate::specs::Sender::sender_reply, crate::specs::Sender::shaped_of, crate::specs::Sender::told_of, crate::specs::Sender::next_line, crate::specs::Sender::sender_of, crate::specs::Sender::filter_input, crate::specs::Sender::tells, crate::specs::Sender::sender_after, mapper::specs::Dqpsk::phase_after))]
     pub fn sample(
-        self,
+        &mut self,
         mapper: &mut DqpskMapper,
         sample_counter: SampleCount,
         slot: TdmaTime,
-        has_bits: bool,
-        bits: &[u8],
-    ) -> Sampled
-        ensures { let d = due_of sample_counter.0 slot.0 has_bits bits.now in
-            (sender_reply result.answer ≡ tells (sender_of self mapper.old) d)
-            × (sender_of result.modulator mapper.new ≡ sender_after (sender_of self mapper.old) d)
-            × ((n : ℕ) → result.answer ≡ Answer.Refused n → (result.modulator ≡ self) × (mapper.new ≡ mapper.old)) }
+        bits: Option<&[u8]>,
+    ) -> Result<ComplexSample, Refusal>
+        ensures reply { sender_reply result ≡ tells (sender_of self.old mapper.old) (due_of sample_counter.0 slot.0 (option_copied bits.entry)) }
+        ensures sender { sender_of self.new mapper.new ≡ sender_after (sender_of self.old mapper.old) (due_of sample_counter.0 slot.0 (option_copied bits.entry)) }
+        ensures kept { OnErr result ((self.new ≡ self.old) × (mapper.new ≡ mapper.old)) }
     {
-        let d = due_now(sample_counter, slot, has_bits, bits);
-        let input = mapper.symbol(d);
-        self.transmit(d, input)
-    }
-
-    // `sample` with the phase record by value, for callers that keep it beside the state.
-    pub fn step(
-        self,
-        mut mapper: DqpskMapper,
-        sample_counter: SampleCount,
-        slot: TdmaTime,
-        has_bits: bool,
-        bits: &[u8],
-    ) -> Stepped
-        ensures { let d = due_of sample_counter.0 slot.0 has_bits bits.now in
-            (sender_reply result.answer ≡ tells (sender_of self mapper) d)
-            × (sender_of result.modulator result.mapper ≡ sender_after (sender_of self mapper) d)
-            × ((n : ℕ) → result.answer ≡ Answer.Refused n → (result.modulator ≡ self) × (result.mapper ≡ mapper)) }
-    {
-        let sampled = self.sample(&mut mapper, sample_counter, slot, has_bits, bits);
-        sampled.beside(mapper)
+        let due = due_now(sample_counter, slot, bits)?;
+        Ok(self.filter.sample(mapper.symbol(due)))
     }
 }

@@ -1,27 +1,31 @@
--- The step's own answer, in numbers.
-use Rattle.std.proofs.Common.{◌≡◌, ℕ, refl, ◌∙◌, ap}
+-- The call's own answer, in numbers.
+use Rattle.std.proofs.Common.{◌≡◌, Result, Ok, Err, refl, ◌∙◌, ap}
 use mir.Syntax.{w64}
 use mir.ValLaws.{to_z-of_z}
-use Rattle.modulator.specs.declared.sender.Answer.{Answer}
-use Rattle.modulator.specs.declared.sender.Answer.TheVariants.{Sample, Refused}
+use Rattle.dsp_types.specs.declared.ComplexSample.{ComplexSample}
+use Rattle.dsp_types.specs.declared.refusals.Refusal.{Refusal}
+use Rattle.dsp_types.specs.Answers.{answer_number}
 use Rattle.modulator.specs.Sender.{SenderReply, sender_reply}
 use Rattle.modem.specs.Send.{sender_in, sample_told}
 use Rattle.modem.proofs.sender.tetra_send_sample.Goals as goal
 
--- an answer whose number is not 0 is a refusal
-refused : (a : Answer) {P : Type 0} → ((sender_reply a).number ≡ 0 → ⊥) → ((n : ℕ) → a ≡ Refused n → P) → P
+number_told : (a : Result ComplexSample Refusal) → answer_number a ≡ (sender_reply a).number
 unfolding sender_reply
-refused (Sample re im) h f = absurd (h refl)
-refused (Refused n) h f = f n refl
+number_told (Ok x) = refl
+number_told (Err refusal) = refl
 
-pub returns : goal.returns
+pub returns-clause-refusal : goal.returns-clause-refusal
 unfolding sender_in
-returns c =
-    let t = c.told_parts-told.ensures in
-    let s = rw (to_z-of_z w64 _ c.ranges.counter) at c.step-stepped.ensures in
-    record {
-      refusal = t.0 ∙ ap (λ (x : SenderReply). x.number) s.0;
-      sample = t.1 ∙ ap sample_told s.0;
-      sender = s.1;
-      kept = λ h. refused _ (λ z. h (t.0 ∙ z)) (λ n e. let k = s.2 n e in λ i. record { modulator = k.0 i; mapper = k.1 i });
-    }
+returns-clause-refusal c =
+    let e = rw (to_z-of_z w64 _ c.ranges.counter, c.given.ensures) at c.sample-answer.ensures.reply in
+    c.answer_number.ensures ∙ number_told c.sample-answer.result ∙ ap (λ (t : SenderReply). t.number) e
+
+pub returns-clause-sample : goal.returns-clause-sample
+unfolding sender_in
+returns-clause-sample c =
+    let e = rw (to_z-of_z w64 _ c.ranges.counter, c.given.ensures) at c.sample-answer.ensures.reply in
+    c.sample_of-told.ensures ∙ ap sample_told e
+
+pub returns-clause-sender : goal.returns-clause-sender
+unfolding sender_in
+returns-clause-sender c = rw (to_z-of_z w64 _ c.ranges.counter, c.given.ensures) at c.sample-answer.ensures.sender

@@ -1,14 +1,14 @@
 -- What was written and what is still to be fed are all that is fed.
 use Rattle.std.proofs.Common.{◌≡◌, ◌-◌, ◌++◌, take}
 use Rattle.fir.specs.Fir.{re_of, im_of}
-use Rattle.modulator.specs.Blocks.{place_due, inputs_of, phases_of}
+use Rattle.modulator.specs.Blocks.{slot_due, inputs_of, phases_of}
 use Rattle.modulator.proofs.block.fill.Given as goal
 
 abbrev pub invariant-loop-n : goal.invariant-loop-n
 invariant-loop-n l =
-    let due = place_due l.counter l.start l.has_bits l.bits in
+    let due = slot_due l.counter l.slot in
     record {
-      re_part : take l.n l.re ++ re_of (inputs_of due (l.count - l.n) l.n l.next) ≡ re_of (inputs_of due l.count 0 l.phase);
-      im_part : take l.n l.im ++ im_of (inputs_of due (l.count - l.n) l.n l.next) ≡ im_of (inputs_of due l.count 0 l.phase);
-      phase_left : phases_of due (l.count - l.n) l.n l.next ≡ phases_of due l.count 0 l.phase;
+      re_part : take l.n l.re ++ re_of (inputs_of due (l.count - l.n) l.n l.mapper.phase) ≡ re_of (inputs_of due l.count 0 l.initial.mapper.phase);
+      im_part : take l.n l.im ++ im_of (inputs_of due (l.count - l.n) l.n l.mapper.phase) ≡ im_of (inputs_of due l.count 0 l.initial.mapper.phase);
+      phase_left : phases_of due (l.count - l.n) l.n l.mapper.phase ≡ phases_of due l.count 0 l.initial.mapper.phase;
     }
