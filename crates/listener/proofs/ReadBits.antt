@@ -5,6 +5,7 @@ use Prim.Native.Nat.{ℕ, ◌*◌, ◌-◌, ◌%◌, ◌<◌, ◌≤◌, min}
 use native.Mathlib.Nat.{mod-eq_of_lt, min-eq_left}
 use lib.ListN.{take, replicate}
 use lib.Ieee.{Float}
+use lib.Dec.{lit<, lit≤}
 use Rattle.dsp_types.specs.Samples.{zero_f, silence, ago}
 use Rattle.history.specs.History.{held_in, samples_in}
 use Rattle.timing.specs.Estimate.{estimate_timing}
@@ -16,7 +17,9 @@ use Rattle.slot_bits.proofs.Laws.{bits_front}
 use Rattle.listener.specs.Signal.{Signal, timing_of, bits_of}
 use Rattle.dsp_types.specs.declared.ComplexSample.{ComplexSample}
 use Rattle.listener.specs.declared.window.Reading.{Reading}
-use Rattle.listener.specs.View.{signal_from, Reads}
+use Rattle.listener.specs.declared.window.Window.{Window}
+use Rattle.listener.specs.declared.window.Window.TheVariants.{Slot, FirstHalf, SecondHalf}
+use Rattle.listener.specs.View.{start_of, symbols_of, signal_from, Reads}
 
 module _ (inputs : List ComplexSample) (re im abs : List Float) (index d n : ℕ) (starts : d < 2048) (symbols : n ≤ 256) where
   pub timed : estimate_timing (λ k. ago zero_f (held_in abs index) (k % 2048)) d n ≡ timing_of (signal_from inputs re im abs index) d n
@@ -37,3 +40,14 @@ module _ (inputs : List ComplexSample) (re im abs : List Float) (index d n : ℕ
 pub read_bits : {s : Signal} {d n : ℕ} {w : Reading} → Reads s d n w → take (2 * (n - 1)) w.bits ≡ bits_of s d n
 unfolding bits_of
 read_bits {s} {d} {n} read = rw read.bits (bits_front _ _ _ _ n _)
+
+-- a window starts within the past and has at most a slot's symbols
+pub starts_within : (w : Window) → start_of w < 2048
+starts_within Slot = lit< tt
+starts_within FirstHalf = lit< tt
+starts_within SecondHalf = lit< tt
+
+pub symbols_within : (w : Window) → symbols_of w ≤ 256
+symbols_within Slot = lit≤ tt
+symbols_within FirstHalf = lit≤ tt
+symbols_within SecondHalf = lit≤ tt

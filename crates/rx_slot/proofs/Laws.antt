@@ -2,12 +2,15 @@
 use mathlib.Core.Path.{◌≡◌, refl, ap}
 use mathlib.Core.Bool.{Bool, true, false, not, ◌&&◌}
 use mathlib.Core.List.{List, [], ◌∷◌, ◌++◌, map}
-use Prim.Native.Nat.{ℕ, zero, suc, ◌≤◌, ◌<◌, ◌%◌, min}
+use Prim.Native.Nat.{ℕ, zero, suc, ◌-◌, ◌≤◌, ◌<◌, ◌%◌, min}
 use native.Mathlib.Omega.{arith}
 use lib.Dec.{eqb, leb}
 use lib.IntN.{ℤ}
-use lib.ListN.{length, get_or, set, take, drop}
+use lib.ListN.{length, get_or, set, take, drop, replicate}
 use lib.Seq.{take_all, length-take-le}
+use Rattle.std.proofs.Common.{append-nil, length-append, length-drop}
+use Rattle.std.proofs.lemmas.List.{drop_all}
+use Rattle.std.proofs.Math.Seq.{take-append_seam}
 use borrow.Author.Tests.{le-leb}
 use Rattle.dsp_types.specs.Times.{slots}
 use Rattle.burst_finder.specs.declared.Finding.{Finding}
@@ -15,12 +18,6 @@ use Rattle.burst_finder.specs.Slots.{most_errors, get_burst}
 use Rattle.rx_slot.specs.declared.RxBurst.{RxBurst}
 use Rattle.rx_slot.specs.Views.{no_view, view_on, stored_burst, stored_view, is_found, valid_view, burst_shown, padded}
 use Rattle.rx_slot.specs.Slots.{HandedSlot, valid_closing, valid_slot, shown, filled}
-
--- the front of a list, no longer than it is
-pub front : (n : ℕ) (l : List ℕ) → take (min n (length l)) l ≡ take n l
-front zero l = let e : min 0 (length l) ≡ 0 = omega arith in rw e
-front (suc n) [] = let e : min (suc n) 0 ≡ 0 = omega arith in rw e
-front (suc n) (x ∷ l) = let e : min (suc n) (suc (length l)) ≡ suc (min n (length l)) = omega arith in rw e (ap (λ (t : List ℕ). x ∷ t) (front n l))
 
 -- what is stored of a finding is seen as that finding
 pub stored_finding : (n : ℕ) (bits : List ℕ) (f : Finding) → stored_view n bits (stored_burst f) ≡ view_on (take n bits) f
@@ -51,6 +48,37 @@ unfolding padded
 length_padded zero bits = refl
 length_padded (suc n) [] = ap suc (length_padded n [])
 length_padded (suc n) (b ∷ bits) = ap suc (length_padded n bits)
+
+zeros : (n : ℕ) → replicate n 0 ≡ padded n []
+unfolding padded
+zeros zero = refl
+zeros (suc n) = ap (λ (l : List ℕ). 0 ∷ l) (zeros n)
+
+-- the bits that there is room for, and zeros behind them
+padded_more : (n k : ℕ) (bits : List ℕ) → k ≡ min (length bits) n → padded k bits ++ replicate (n - k) 0 ≡ padded n bits
+unfolding padded
+padded_more zero k bits h = let e : k ≡ 0 = omega arith in rw e refl
+padded_more (suc n) k [] h = 
+    let e : k ≡ 0 = omega arith in
+    let s : suc n - 0 ≡ suc n = omega arith in
+    rw (e, s) (ap (λ (l : List ℕ). 0 ∷ l) (zeros n))
+padded_more (suc n) k (b ∷ bits) h =
+    let m = min (length bits) n in
+    let e : k ≡ suc m = omega arith in
+    let s : suc n - suc m ≡ n - m = omega arith in
+    rw (e, s) (ap (λ (l : List ℕ). b ∷ l) (padded_more n m bits refl))
+
+-- .. once the bits are written, and the rest is zeros
+pub filled_up : (bits out written : List ℕ) (k : ℕ) → k ≡ min (length bits) (length out) → written ≡ padded k bits ++ drop k out
+    → take k written ++ (replicate (length written - k) 0 ++ drop (length written - k) (drop k written)) ≡ padded (length out) bits
+filled_up bits out written k h w =
+    let front = take-append_seam (padded k bits) (drop k out) in
+    let long : length written ≡ length out = rw w (simp (length-append, length_padded, length-drop) (omega arith)) in
+    let none : drop (length written - k) (drop k written) ≡ [] = drop_all (length written - k) (drop k written) (simp length-drop (omega arith)) in
+    let t : take k written ≡ padded k bits = rw w (rw (length_padded k bits) at front) in
+    let rest : List ℕ = replicate (length out - k) 0 in
+    let z : rest ++ [] ≡ rest = append-nil rest in
+    rw (none, t, long, z) (padded_more (length out) k bits h)
 
 -- the bits in front
 pub padded_front : (n : ℕ) (bits : List ℕ) → length bits ≤ n → take (length bits) (padded n bits) ≡ bits

@@ -7,6 +7,7 @@ use crate::RxBurst;
 use burst_finder::SlotType;
 
 // The burst in these bits, checked as those of a slot of this type.
+#[tactic(auto, unfolding(crate::specs::Views::stored_burst))]
 pub fn checked_burst(slot_type: SlotType, bits: &[u8]) -> RxBurst
     ensures { result ≡ stored_burst (check_slot slot_type bits.now) }
 {

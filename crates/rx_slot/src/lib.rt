@@ -35,6 +35,7 @@ pub struct RxSlot {
 }
 
 // No burst.
+#[tactic(auto, unfolding(crate::specs::Views::no_view, crate::specs::Views::burst_shown))]
 pub fn no_burst() -> RxBurst
     ensures { result ≡ burst_shown no_view }
 {

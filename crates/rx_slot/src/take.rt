@@ -13,8 +13,8 @@ fn fill(bits: &[u8], out: &mut [u8])
     ensures { out.new ≡ padded (length out.old) (map (λ b. b % 2) bits.now) }
 {
     let n = bits.len().min(out.len());
-    for (to, bit) in out.iter_mut().zip(bits) {
-        *to = bit % 2;
+    for (i, bit) in bits[..n].iter().enumerate() {
+        out[i] = bit % 2;
     }
     out[n..].fill(0);
 }

@@ -20,15 +20,18 @@ search_hands_none Dl = refl
 search_hands_none Ul = refl
 
 -- in Dl and in Ul a window hands a slot over
-pub hands : (mode : ℕ) (r : Receiver) → (eqb mode 2 || eqb mode 3) ≡ is_slot (kind_of (mode_of mode) r)
-unfolding is_slot kind_of mode_of
-hands zero r = refl
-hands (suc zero) r = search_hands_none r.mode
-hands (suc (suc zero)) r = refl
-hands (suc (suc (suc zero))) r = refl
-hands (suc (suc (suc (suc n)))) r =
-    let m = suc (suc (suc (suc n))) in
-    rw (ne_eqb m 1 (λ e. omega (arith, e)), ne_eqb m 2 (λ e. omega (arith, e)), ne_eqb m 3 (λ e. omega (arith, e)))
+pub hands_over_in : Mode → Bool
+hands_over_in Idle = false
+hands_over_in DlUnsynchronized = false
+hands_over_in Dl = true
+hands_over_in Ul = true
+
+pub hands : (m : Mode) (r : Receiver) → hands_over_in m ≡ is_slot (kind_of m r)
+unfolding is_slot kind_of hands_over_in
+hands Idle r = refl
+hands DlUnsynchronized r = search_hands_none r.mode
+hands Dl r = refl
+hands Ul r = refl
 
 pub hands_closed : (r : Receiver) (c : ℤ) → is_slot (kind_of r.mode (close_window r c)) ≡ hands_over (window_if true r c)
 unfolding hands_over window_if

@@ -5,10 +5,11 @@ use mathlib.Core.List.{List}
 use Prim.Native.Nat.{ℕ, zero, suc, ◌+◌, ◌*◌, ◌≤◌, ◌<◌}
 use native.Mathlib.Omega.{arith}
 use native.Mathlib.Numerals.{add-one}
-use lib.ListN.{take}
+use lib.ListN.{length, take}
+use lib.Seq.{take_all}
 use lib.IntN.{ℤ, pos, negsuc, ◌+ℤ◌, ◌-ℤ◌, +ℤ_idr, +ℤ_assoc}
 use lib.Ieee.{Float, binary32, add, sub}
-use borrow.Author.Tests.{le-leb, lt-leb, ne_eqb}
+use borrow.Author.Tests.{le-leb, lt-leb}
 use Rattle.dsp_types.specs.Samples.{zero_f, one_f}
 use Rattle.dsp_types.specs.Times.{slot_of}
 use Rattle.timing.specs.Tracking.{averaged_of, late, early, lowered_of, settled_of, moved_of}
@@ -33,22 +34,6 @@ use Rattle.slot_receiver.proofs.Times.{found_reference, sync_placed}
 
 -- ---- modes
 
-pub mode_idle : (n : ℕ) → (n ≡ 1 → ⊥) → (n ≡ 2 → ⊥) → (n ≡ 3 → ⊥) → mode_of n ≡ Idle
-unfolding mode_of
-mode_idle n a b c = rw (ne_eqb n 1 a, ne_eqb n 2 b, ne_eqb n 3 c)
-
-pub mode_search : (n : ℕ) → n ≡ 1 → mode_of n ≡ DlUnsynchronized
-unfolding mode_of
-mode_search n e = rw e
-
-pub mode_downlink : (n : ℕ) → n ≡ 2 → mode_of n ≡ Dl
-unfolding mode_of
-mode_downlink n e = rw e
-
-pub mode_uplink : (n : ℕ) → n ≡ 3 → mode_of n ≡ Ul
-unfolding mode_of
-mode_uplink n e = rw e
-
 pub mode_stored : (m : Mode) → mode_of (mode_number m) ≡ m
 unfolding mode_of mode_number
 mode_stored Idle = refl
@@ -57,13 +42,13 @@ mode_stored Dl = refl
 mode_stored Ul = refl
 
 -- fewer than 100 misses keep a receiver locked
-pub mode_locked : (n misses : ℕ) → n ≡ 2 → misses < 100 → mode_of n ≡ mode_after misses
+pub mode_locked : (n misses : ℕ) → mode_of n ≡ Dl → misses < 100 → mode_of n ≡ mode_after misses
 unfolding mode_after
-mode_locked n misses e h = rw (mode_downlink n e, lt-leb 100 misses h)
+mode_locked n misses e h = rw (e, lt-leb 100 misses h)
 
-pub mode_lost : (misses : ℕ) → 100 ≤ misses → mode_of 1 ≡ mode_after misses
-unfolding mode_after mode_of
-mode_lost misses h = rw (le-leb 100 misses h)
+pub mode_lost : (n misses : ℕ) → n ≡ mode_number DlUnsynchronized → 100 ≤ misses → mode_of n ≡ mode_after misses
+unfolding mode_after
+mode_lost n misses e h = rw (e, mode_stored DlUnsynchronized, le-leb 100 misses h)
 
 -- ---- a search window
 
@@ -99,6 +84,9 @@ module _ (r : Receiver) (w : Reading) (read : Reads r.signal 1024 256 w) (b : Fo
 pub seen : (k : SlotType) (n : ℕ) (bits : List ℕ) {b : RxBurst} → b ≡ stored_burst (check_slot k (take n bits)) → stored_view n bits b ≡ checked k (take n bits)
 unfolding checked
 seen k n bits e = ap (stored_view n bits) e ∙ stored_finding n bits (check_slot k (take n bits))
+
+pub seen_all : (k : SlotType) (bits : List ℕ) {b : RxBurst} → length bits ≡ 510 → b ≡ stored_burst (check_slot k bits) → stored_view 510 bits b ≡ checked k (take 510 bits)
+seen_all k bits l e = let t : take 510 bits ≡ bits = take_all 510 bits (omega (arith, l)) in seen k 510 bits (e ∙ rw t)
 
 pub handed_over : (r : Receiver) (c : ℤ) (w : Reading) (v : BurstView) (type : ℕ) → Reads r.signal 1024 256 w → v ≡ checked SlotType.Dl (take 510 w.bits)
     → type ≡ (checked SlotType.Dl (take 510 w.bits)).type → (m : Mode) (l : Lock) → l ≡ lock_after r.lock w.timing type → m ≡ mode_after l.misses
