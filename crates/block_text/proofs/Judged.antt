@@ -1,33 +1,30 @@
--- An answer by how its characters are judged.
+-- An answer by how its characters are judged, and the slot that it makes.
 use mathlib.Core.Path.{◌≡◌, refl}
-use mathlib.Core.Bool.{Bool, true, false, not, cond, ◌&&◌}
-use mathlib.Core.List.{List, map}
+use mathlib.Core.List.{List, [], ◌∷◌, map}
 use Prim.Native.Nat.{ℕ, zero, suc}
-use native.Mathlib.Omega.{arith}
-use lib.Dec.{eqb}
-use lib.ListN.{length}
-use Rattle.dsp_types.proofs.Laws.{right_length}
-use Rattle.dsp_types.specs.Refusals.{wrong_length}
-use Rattle.slotter.specs.Bursts.{refusal}
-use Rattle.block_text.specs.BlockText.{wanted, not_characters, wrong_count, refusal_of, character_bit, burst_of, answer_of}
+use borrow.Author.Tests.{ne_eqb}
+use Rattle.std.specs.Prelude.{Err}
+use Rattle.dsp_types.specs.declared.refusals.Refusal.{Refusal}
+use Rattle.dsp_types.specs.Answers.{number_of}
+use Rattle.slotter.specs.Bursts.{builder_reply, refusal}
+use Rattle.slotter.proofs.Answers.{number_positive}
+use Rattle.block_text.specs.BlockText.{refusal_of, character_bit, burst_of, answer_of}
+use Rattle.block_text.specs.Lines.{answered, slots_for}
 
 -- an answer, by its refusal
-pub refuses : (k n : ℕ) (cs : List ℕ) → n ≡ refusal_of k cs → (n ≡ 0 → ⊥) → refusal n ≡ answer_of k cs
-unfolding answer_of
-refuses k zero cs e z = absurd (z refl)
-refuses k (suc n) cs e z = rw (← e)
-
-pub accepts : (k n : ℕ) (cs : List ℕ) → n ≡ refusal_of k cs → n ≡ 0 → burst_of k (map character_bit cs) ≡ answer_of k cs
-unfolding answer_of
-accepts k n cs e z = rw (← e, z)
-
--- where nothing is refused, the count is right
-pub right_count : (k : ℕ) (cs : List ℕ) → refusal_of k cs ≡ 0 → length cs ≡ wanted k
-unfolding refusal_of wrong_count
-right_count k cs = go (eqb k 0) (wrong_length (wanted k) cs) (not_characters cs) refl
+pub refuses : (r : Refusal) (k : ℕ) (cs : List ℕ) → number_of r ≡ refusal_of k cs → builder_reply (Err r) ≡ answer_of k cs
+unfolding builder_reply answer_of
+refuses r k cs e = go (number_of r) e (number_positive r)
   where
-    go : (a b c : Bool) → wrong_length (wanted k) cs ≡ b → ◌≡◌ {A = ℕ} (cond (not a && b) 3 (cond c 4 (cond a 5 0))) 0 → length cs ≡ wanted k
-    go true b true e h = absurd (omega (arith, h))
-    go true b false e h = absurd (omega (arith, h))
-    go false true c e h = absurd (omega (arith, h))
-    go false false c e h = right_length (wanted k) cs e
+    go : (n : ℕ) → n ≡ refusal_of k cs → (n ≡ 0 → ⊥) → refusal n ≡ answer_of k cs
+    go zero e h = absurd (h refl)
+    go (suc n) e h = rw (← e)
+
+pub accepts : (k : ℕ) (cs : List ℕ) → 0 ≡ refusal_of k cs → burst_of k (map character_bit cs) ≡ answer_of k cs
+unfolding answer_of
+accepts k cs e = rw (← e)
+
+-- a refusal's slot has no burst
+pub no_burst : (r : Refusal) (type : ℕ) → [] ∷ [] ≡ slots_for (answered type (builder_reply (Err r)))
+unfolding slots_for builder_reply refusal
+no_burst r type = rw (ne_eqb (number_of r) 0 (number_positive r))

@@ -1,13 +1,12 @@
 -- What a long line comes to is decided by its first bytes. Assumes nothing.
-use Prim.Native.Nat.{ℕ, ◌+◌, ◌-◌, ◌≤◌, ◌<◌}
+use Prim.Native.Nat.{ℕ, ◌+◌, ◌-◌, ◌≤◌}
 use mathlib.Core.Path.{◌≡◌, refl, sym, ap, ◌∙◌}
 use mathlib.Core.Bool.{Bool, true, false, not, cond, ◌&&◌}
 use mathlib.Core.List.{List, [], ◌∷◌, ◌++◌, append_assoc}
 use native.Mathlib.Omega.{arith}
-use native.Mathlib.Numerals.{add-one}
 use lib.Dec.{eqb}
-use lib.ListN.{length, take, drop, set, get_or, length-append, length-drop}
-use lib.Seq.{append_snoc, split_at, length-take-le, take-suc-set, take_all, drop-append-le}
+use lib.ListN.{length, take, drop, get_or, length-append, length-drop}
+use lib.Seq.{append_snoc, split_at, length-take-le, drop-append-le}
 use borrow.Author.Tests.{ne_eqb}
 use Rattle.dsp_types.specs.Refusals.{wrong_length}
 use Rattle.slotter.specs.Bursts.{refusal}
@@ -125,9 +124,8 @@ long_line line h s t = with_tail s ∙ sym (with_tail t)
         ∙ long_told (take 511 line) (rw (length-take-le 511 line (omega arith)) (omega arith)) (trimmed 13 (get_or line 511 0 ∷ (drop 512 line ++ r)))
 
 -- a byte more, where there is room and where there is none
-module _ (kept : List ℕ) (n b : ℕ) (h : length kept ≡ 512) where
-  pub room : n < 512 → (t : List ℕ) → sent_of (take (n + 1) (set kept n b) ++ t) ≡ sent_of (take n kept ++ (b ∷ t))
-  room l t = ap sent_of (rw (add-one n, take-suc-set kept n b (omega arith)) (append_snoc (take n kept) b t))
+pub room : (kept : List ℕ) (b : ℕ) (t : List ℕ) → sent_of ((kept ++ (b ∷ [])) ++ t) ≡ sent_of (kept ++ (b ∷ t))
+room kept b t = ap sent_of (append_snoc kept b t)
 
-  pub no_room : 512 ≤ n → (t : List ℕ) → sent_of (take n kept ++ t) ≡ sent_of (take n kept ++ (b ∷ t))
-  no_room l t = rw (take_all n kept (omega arith)) (long_line kept (omega arith) t (b ∷ t))
+pub no_room : (kept : List ℕ) (b : ℕ) → length kept ≡ 512 → (t : List ℕ) → sent_of (kept ++ t) ≡ sent_of (kept ++ (b ∷ t))
+no_room kept b h t = long_line kept (omega (arith, h)) t (b ∷ t)

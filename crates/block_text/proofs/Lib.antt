@@ -1,6 +1,6 @@
 pub mod Characters
 pub mod Blocks
-mod Judged
-mod Words
-mod Offsets
+pub mod Words
+pub mod Offsets
 pub mod Kept
+pub mod Judged

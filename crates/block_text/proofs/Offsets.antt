@@ -1,33 +1,17 @@
 -- The first word of a text and what stands behind it, as the code finds them; the offset that a word is.
-use mathlib.Core.Path.{◌≡◌, refl, ap}
+use mathlib.Core.Path.{◌≡◌, refl, sym, ap, ◌∙◌}
 use mathlib.Core.Bool.{Bool, true, false, cond}
 use mathlib.Core.List.{List, [], ◌∷◌, ◌++◌}
-use Prim.Native.Nat.{ℕ, suc, ◌+◌, ◌*◌, ◌≤◌, ◌<◌}
-use native.Mathlib.Numerals.{add-one}
+use Prim.Native.Nat.{ℕ, suc, ◌+◌, ◌≤◌, ◌<◌}
 use native.Mathlib.Omega.{arith}
-use lib.Dec.{eqb}
-use lib.ListN.{length, take, drop, get_or, drop_of_length-le}
-use lib.Seq.{drop-cons}
-use borrow.Author.Tests.{eq-eqb, ne_eqb}
-use Rattle.block_text.specs.UplinkLines.{first_word, after_word, digit_of, offset_of, not_offset}
-
--- ---- the search for the first blank: what is before it, and stands before i, is counted
-
-abbrev pub Counted : List ℕ → ℕ → Type 0
-Counted text i = length (first_word text) ≡ i + length (first_word (drop i text))
-
-module _ (text : List ℕ) (i : ℕ) (e : Counted text i) where
-  pub blank : i < length text → get_or text i 0 ≡ 32 → i ≡ length (first_word text)
-  unfolding first_word
-  blank h b = let k = rw (drop-cons text i 0 h, eq-eqb (get_or text i 0) 32 b) at e in omega (arith, k)
-
-  pub no_blank : i < length text → (get_or text i 0 ≡ 32 → ⊥) → Counted text (i + 1)
-  unfolding first_word
-  no_blank h b = let k = rw (drop-cons text i 0 h, ne_eqb (get_or text i 0) 32 b) at e in rw (add-one i) (omega (arith, k))
-
-  pub no_more : i ≡ length text → length text ≡ length (first_word text)
-  unfolding first_word
-  no_more h = let k = rw (drop_of_length-le text {i = i} (omega arith)) at e in omega (arith, k)
+use lib.Dec.{eqb, ltb}
+use lib.ListN.{length, take, drop, drop_of_length-le}
+use lib.Seq.{drop-drop, take_all}
+use borrow.Author.Tests.{ltb-true, ltb-false}
+use Rattle.std.specs.Prelude.{Option, None, Some, MatchOption}
+use Rattle.std.specs.List.{position, position_or_len}
+use Rattle.std.proofs.lemmas.List.Recursion.{is_position_or_len}
+use Rattle.block_text.specs.UplinkLines.{first_word, after_word, offset_of, not_offset}
 
 -- ---- the word and the rest, by the word's length
 
@@ -49,27 +33,37 @@ rest (c ∷ text) = go (rest text) (eqb c 32)
     go e true = refl
     go e false = e
 
--- ---- an offset, by the number of its digits
+-- ---- the search for the first blank
 
-pub one_digit : (w : List ℕ) → length w ≡ 1 → digit_of (get_or w 0 0) ≡ offset_of w
-unfolding offset_of
-one_digit [] h = absurd (omega arith)
-one_digit (c ∷ []) h = refl
-one_digit (c ∷ d ∷ w) h = absurd (omega arith)
+unfoldable pub blank : ℕ → Bool
+blank c = eqb c 32
 
-pub two_digits : (w : List ℕ) → length w ≡ 2 → 10 * digit_of (get_or w 0 0) + digit_of (get_or w 1 0) ≡ offset_of w
-unfolding offset_of
-two_digits [] h = absurd (omega arith)
-two_digits (c ∷ []) h = absurd (omega arith)
-two_digits (c ∷ d ∷ []) h = refl
-two_digits (c ∷ d ∷ e ∷ w) h = absurd (omega arith)
+place : (text : List ℕ) → length (first_word text) ≡ position_or_len blank text
+unfolding first_word blank
+place text = is_position_or_len (λ t. length (first_word t)) blank refl step text
+  where
+    step : (c : ℕ) (text : List ℕ) → length (first_word (c ∷ text)) ≡ cond (blank c) 0 (1 + length (first_word text))
+    step c text = go (eqb c 32)
+      where
+        go : (b : Bool) → length (cond b [] (c ∷ first_word text)) ≡ cond b 0 (1 + length (first_word text))
+        go true = refl
+        go false = omega arith
 
-pub no_number : (w : List ℕ) → (length w ≡ 1 → ⊥) → (length w ≡ 2 → ⊥) → 99 ≡ offset_of w
-unfolding offset_of
-no_number [] h k = refl
-no_number (c ∷ []) h k = absurd (h refl)
-no_number (c ∷ d ∷ []) h k = absurd (k refl)
-no_number (c ∷ d ∷ e ∷ w) h k = refl
+-- what the place of the first blank says of the word and the rest
+pub parted : (text : List ℕ) (r : Option ℕ) → r ≡ position blank text
+    → MatchOption r ((first_word text ≡ text) × (after_word text ≡ [])) (λ at. (at < length text) × (take at text ≡ first_word text) × (drop (at + 1) text ≡ after_word text))
+unfolding blank
+parted text r e = rw e (go (ltb (position_or_len blank text) (length text)) refl)
+  where
+    go : (b : Bool) → ltb (position_or_len blank text) (length text) ≡ b
+        → MatchOption (cond b (Some (position_or_len blank text)) None) ((first_word text ≡ text) × (after_word text ≡ [])) (λ at. (at < length text) × (take at text ≡ first_word text) × (drop (at + 1) text ≡ after_word text))
+    go true h = (ltb-true _ _ h, rw (← place text) (word text), rw (← drop-drop 1 (position_or_len blank text) text, ← place text) (rest text))
+    go false h =
+        let k : length text ≤ (position_or_len blank text) = ltb-false (position_or_len blank text) (length text) h in
+        let w = place text in (
+          sym (rw w at (word text)) ∙ take_all (position_or_len blank text) text k,
+          sym (rw w at (rest text)) ∙ rw (drop_of_length-le text {i = (position_or_len blank text)} k) refl,
+        )
 
 -- ---- a long text
 

@@ -1,7 +1,20 @@
 -- A burst's blocks written as characters (01, "Checked figures"), of any number. Definitions only.
-use Rattle.std.specs.Prelude.{ℕ, zero, suc, Bool, false, not, cond, ◌&&◌, ◌||◌, List, [], ◌∷◌, map, eqb, take, drop}
+use Rattle.std.specs.Prelude.{ℕ, zero, suc, Bool, false, not, cond, ◌&&◌, ◌||◌, List, [], ◌∷◌, map, eqb, take, drop, Option, None, Some}
 use Rattle.dsp_types.specs.Refusals.{accepted, bad_length, bad_bit, bad_training, wrong_length}
 use Rattle.slotter.specs.Bursts.{BuilderReply, refusal, sync_burst, normal_burst}
+use Rattle.block_text.specs.declared.BurstType.{BurstType}
+use Rattle.block_text.specs.declared.BurstType.TheVariants.{Normal1, Normal2, Sync}
+
+-- a burst type's number (01, "Slot bits and burst views")
+abbrev pub type_number : BurstType → ℕ
+type_number Normal1 = 1
+type_number Normal2 = 2
+type_number Sync = 4
+
+-- .. and 0 for none
+abbrev pub type_or_0 : Option BurstType → ℕ
+type_or_0 None = 0
+type_or_0 (Some type) = type_number type
 
 -- the burst type that a letter asks for (01, "Slot bits and burst views"): S 4, N 1, P 2, another letter 0
 unfoldable pub letter_type : ℕ → ℕ

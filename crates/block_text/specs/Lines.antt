@@ -1,15 +1,16 @@
 -- What a line of `tetra_tx` asks for (man/tetra_tx.1). Definitions only.
-use Rattle.std.specs.Prelude.{ℕ, Bool, true, false, cond, ◌&&◌, ◌||◌, List, [], ◌∷◌, eqb, length, drop}
+use Rattle.std.specs.Prelude.{ℕ, Bool, true, false, cond, ◌&&◌, ◌||◌, List, [], ◌∷◌, eqb, length, drop, Option, None, Some, Result, Ok, Err}
 use Rattle.text.specs.Text.{ascii, trimmed}
 use Rattle.dsp_types.specs.Refusals.{accepted, bad_bit, wrong_length}
 use Rattle.slotter.specs.Bursts.{BuilderReply}
 use Rattle.block_text.specs.declared.line.Asked.{Asked}
-use Rattle.block_text.specs.BlockText.{not_characters, answer_of}
-use Rattle.block_text.specs.UplinkLines.{first_word, after_word, offset_of, not_offset, uplink_wanted, uplink_slot}
+use Rattle.block_text.specs.BlockText.{type_number, not_characters, answer_of}
+use Rattle.block_text.specs.UplinkLines.{uplink_number, first_word, after_word, offset_of, not_offset, uplink_wanted, uplink_slot}
 use Rattle.block_text.specs.declared.line.Asked.TheVariants.{Nothing, Empty, Burst, Uplink, Unknown}
 use Rattle.block_text.specs.declared.slot.Complaint.{Complaint}
-use Rattle.block_text.specs.declared.slot.Complaint.TheVariants.{None, NotBits, SyncLength, NormalLength, UplinkLength, ControlLength, Offset}
+use Rattle.block_text.specs.declared.slot.Complaint.TheVariants.{NotBits, SyncLength, NormalLength, UplinkLength, ControlLength, Offset}
 use Rattle.block_text.specs.declared.slot.LineSlot.{LineSlot}
+use Rattle.block_text.specs.declared.slot.LineSlot.TheVariants.{Bits}
 
 -- no slot, one without a burst, a burst of a type from its blocks' characters, an uplink's burst from its offset and its blocks' characters, or what is reported and sent without a burst
 pub data Wish : Type 0 where
@@ -19,12 +20,12 @@ pub data Wish : Type 0 where
   uplink : ℕ → List ℕ → Wish
   unknown : Wish
 
-unfoldable pub asked_of : List ℕ → Asked → Wish
-asked_of line Nothing = none
-asked_of line Empty = silence
-asked_of line (Burst type place) = burst type (drop place line)
-asked_of line (Uplink type) = uplink type (drop 8 line)
-asked_of line Unknown = unknown
+unfoldable pub asked_of : Asked → Wish
+asked_of Nothing = none
+asked_of Empty = silence
+asked_of (Burst type characters) = burst (type_number type) characters.now
+asked_of (Uplink type text) = uplink (uplink_number type) text.now
+asked_of Unknown = unknown
 
 -- a line starts with a word
 unfoldable pub starts_with : List ℕ → List ℕ → Bool
@@ -89,17 +90,26 @@ slots_for (refused complaint) = [] ∷ []
 slots_for (placed bits) = bits ∷ []
 
 -- blocks of that type, answered with that number
-unfoldable pub complaint_of : ℕ → ℕ → Complaint
-complaint_of type number = cond (eqb number accepted) None (cond (eqb number bad_bit) NotBits (cond (eqb type 4) SyncLength NormalLength))
+unfoldable pub complaint_of : ℕ → ℕ → Option Complaint
+complaint_of type number =
+    cond (eqb number accepted) None (cond (eqb number bad_bit) (Some NotBits) (cond (eqb type 4) (Some SyncLength) (Some NormalLength)))
 
-unfoldable pub complaint_for : Sent → Complaint
+unfoldable pub complaint_for : Sent → Option Complaint
 complaint_for passed = None
 complaint_for empty = None
-complaint_for reported = Complaint.Unknown
+complaint_for reported = Some Complaint.Unknown
 complaint_for (answered type reply) = complaint_of type reply.number
-complaint_for (refused complaint) = complaint
+complaint_for (refused complaint) = Some complaint
 complaint_for (placed bits) = None
 
--- a slot as the code hands it on
-unfoldable pub slots_of : LineSlot → List (List ℕ)
-slots_of s = cond s.is_sent (cond s.has_bits s.bits [] ∷ []) []
+-- an answer of the code in these terms: the slots that are sent
+abbrev pub slots_of : Result LineSlot Complaint → List (List ℕ)
+slots_of (Ok LineSlot.Nothing) = []
+slots_of (Ok LineSlot.Empty) = [] ∷ []
+slots_of (Ok (Bits bits)) = bits ∷ []
+slots_of (Err complaint) = [] ∷ []
+
+-- .. and what is said of the line
+abbrev pub complaint_in : Result LineSlot Complaint → Option Complaint
+complaint_in (Ok slot) = None
+complaint_in (Err complaint) = Some complaint

@@ -2,6 +2,14 @@
 use Rattle.std.specs.Prelude.{ℕ, ◌+◌, ◌-◌, ◌*◌, ◌%◌, Bool, not, cond, ◌||◌, List, [], ◌∷◌, map, ltb, eqb, take, drop}
 use Rattle.slotter.specs.Uplink.{UplinkReply, normal_uplink, control_uplink, uplink_bits, placed}
 use Rattle.block_text.specs.BlockText.{character_bit}
+use Rattle.block_text.specs.declared.uplink.UplinkType.{UplinkType}
+use Rattle.block_text.specs.declared.uplink.UplinkType.TheVariants.{Normal1, Normal2, Control}
+
+-- the number of an uplink burst's type: of a normal burst its training sequence, of a control burst 3
+abbrev pub uplink_number : UplinkType → ℕ
+uplink_number Normal1 = 1
+uplink_number Normal2 = 2
+uplink_number Control = 3
 
 -- the bytes before the first blank
 unfoldable pub first_word : List ℕ → List ℕ

@@ -5,48 +5,54 @@ mod line;
 mod slot;
 mod uplink;
 
-ghost use Rattle.std.specs.Prelude.{◌≡◌, ◌≤◌, ◌++◌, map, length, drop, replicate};
+ghost use Rattle.std.specs.Prelude.{◌≡◌, map, length, None, Some, IfOk, IfSome};
+ghost use Rattle.dsp_types.specs.Answers.{answer_number};
 ghost use Rattle.slotter.specs.Bursts.{builder_reply};
-ghost use Rattle.block_text.specs.BlockText.{letter_type, wanted, not_character, not_characters, wrong_count, refusal_of, character_bit, burst_of, answer_of};
+ghost use Rattle.block_text.specs.BlockText.{type_number, type_or_0, letter_type, wanted, not_character, not_characters, refusal_of, character_bit, burst_of, answer_of};
 
-use dsp_types::{ACCEPTED, BAD_BIT, BAD_LENGTH, BAD_TRAINING};
-pub use line::{behind, push};
+use dsp_types::Refusal;
+pub use line::push;
 pub use slot::{Complaint, LineSlot, slot_of};
-use slotter::{Answer, Burst};
+use slotter::Burst;
 
-// The burst type that a letter asks for: S 4, N 1, P 2, another letter 0.
-#[tactic(auto, unfolding(crate::specs::BlockText::letter_type))]
-pub fn type_of(letter: u8) -> u32
-    ensures { result ≡ letter_type letter }
-{
-    if letter == b'S' {
-        4
-    } else if letter == b'N' {
-        1
-    } else if letter == b'P' {
-        2
-    } else {
-        0
-    }
+// The type of a downlink burst.
+#[derive(Clone, Copy, Debug, PartialEq, Eq)]
+pub enum BurstType {
+    Normal1 = 1,
+    Normal2 = 2,
+    Sync = 4,
 }
 
-// How many characters the blocks of a type have.
-#[tactic(auto, unfolding(crate::specs::BlockText::wanted))]
-fn wanted_length(burst_type: u32) -> usize
-    ensures { result ≡ wanted burst_type }
-{
-    if burst_type == 4 { 366 } else { 462 }
-}
-
-// Whether some character is other than 0 and 1.
-fn not_characters(characters: &[u8]) -> bool
-    ensures { result ≡ not_characters characters.now }
-{
-    let mut found = false;
-    for i in 0..characters.len() {
-        found = found | not_character(characters[i]);
+impl BurstType {
+    // The type that a letter asks for.
+    #[tactic(auto, unfolding(crate::specs::BlockText::letter_type))]
+    pub fn of_letter(letter: u8) -> Option<BurstType>
+        ensures { type_or_0 result ≡ letter_type letter }
+    {
+        match letter {
+            b'S' => Some(BurstType::Sync),
+            b'N' => Some(BurstType::Normal1),
+            b'P' => Some(BurstType::Normal2),
+            _ => None,
+        }
     }
-    found
+
+    pub fn number(self) -> u32
+        ensures { result ≡ type_number self }
+    {
+        self as u32
+    }
+
+    // How many characters the blocks have.
+    #[tactic(auto, unfolding(crate::specs::BlockText::wanted))]
+    fn length(self) -> usize
+        ensures { result ≡ wanted (type_number self) }
+    {
+        match self {
+            BurstType::Sync => 366,
+            BurstType::Normal1 | BurstType::Normal2 => 462,
+        }
+    }
 }
 
 // Whether a character is other than 0 and 1.
@@ -54,35 +60,34 @@ fn not_characters(characters: &[u8]) -> bool
 pub fn not_character(c: u8) -> bool
     ensures { result ≡ not_character c }
 {
-    !((c == b'0') | (c == b'1'))
+    c != b'0' && c != b'1'
 }
 
-// Whether the characters behind a letter of that type are too few or too many. For another letter no length is judged.
-#[tactic(auto, unfolding(crate::specs::BlockText::wrong_count, dsp_types::specs::Refusals::wrong_length))]
-fn wrong_length(burst_type: u32, characters: &[u8]) -> bool
-    ensures { result ≡ wrong_count burst_type characters.now }
+// Whether some character is other than 0 and 1.
+fn not_characters(characters: &[u8]) -> bool
+    ensures { result ≡ not_characters characters.now }
 {
-    (burst_type != 0) & (characters.len() != wanted_length(burst_type))
+    characters.iter().any(|c| not_character(*c))
 }
 
-// The refusal of the characters behind a letter of that type: 3, 4, 5 for another letter, else 0.
-#[tactic(auto, unfolding(crate::specs::BlockText::refusal_of))]
-fn refusal_of(burst_type: u32, characters: &[u8]) -> u32
-    ensures { result ≡ refusal_of burst_type characters.now }
+// The burst type behind a letter, whose characters are not refused.
+#[tactic(auto, unfolding(crate::specs::BlockText::refusal_of, crate::specs::BlockText::wrong_count, dsp_types::specs::Refusals::wrong_length))]
+fn judged_type(burst_type: Option<BurstType>, characters: &[u8]) -> Result<BurstType, Refusal>
+    ensures refusal { answer_number result ≡ refusal_of (type_or_0 burst_type) characters.now }
+    ensures known { IfOk result (λ t. burst_type ≡ Some t) }
+    ensures length { IfOk result (λ t. length characters.now ≡ wanted (type_number t)) }
 {
-    let wrong = wrong_length(burst_type, characters);
-    let bad = not_characters(characters);
-    if wrong {
-        return BAD_LENGTH;
+    let is_counted = match burst_type {
+        Some(known) => characters.len() == known.length(),
+        None => true,
+    };
+    if !is_counted {
+        return Err(Refusal::BadLength);
     }
-    if bad {
-        return BAD_BIT;
+    if not_characters(characters) {
+        return Err(Refusal::BadBit);
     }
-    if burst_type == 0 {
-        BAD_TRAINING
-    } else {
-        ACCEPTED
-    }
+    burst_type.ok_or(Refusal::BadTraining)
 }
 
 // The bit that a character stands for.
@@ -93,43 +98,46 @@ fn bit_of(c: u8) -> u8
     if c == b'1' { 1 } else { 0 }
 }
 
-// The bits that at most 462 characters stand for, and zeros behind them.
-fn bits_of(characters: &[u8]) -> [u8; 462]
-    requires { length characters.now ≤ 462 }
-    ensures { result ≡ map character_bit characters.now ++ drop (length characters.now) (replicate 462 0) }
+// The bits that characters stand for.
+fn bits_of<const N: usize>(characters: &[u8]) -> [u8; N]
+    requires { length characters.now ≡ N }
+    ensures { result ≡ map character_bit characters.now }
 {
-    let mut bits = [0; 462];
-    for i in 0..characters.len() {
-        bits[i] = bit_of(characters[i]);
+    let mut bits = [0; N];
+    for (i, c) in characters.iter().enumerate() {
+        bits[i] = bit_of(*c);
     }
     bits
 }
 
 // The burst of a type, from the characters of its blocks.
-fn burst_of(burst_type: u32, characters: &[u8]) -> Burst
-    requires { length characters.now ≡ wanted burst_type }
-    ensures { builder_reply result ≡ burst_of burst_type (map character_bit characters.now) }
+#[tactic(auto, unfolding(crate::specs::BlockText::wanted))]
+fn burst_of(burst_type: BurstType, characters: &[u8]) -> Result<Burst, Refusal>
+    requires { length characters.now ≡ wanted (type_number burst_type) }
+    ensures { builder_reply result ≡ burst_of (type_number burst_type) (map character_bit characters.now) }
 {
-    let all = bits_of(characters);
-    let bits: &[u8] = &all;
-    if burst_type == 4 {
-        slotter::build_sdb(&bits[0..120], &bits[120..150], &bits[150..366])
-    } else {
-        slotter::build_ndb(burst_type, &bits[0..216], &bits[216..246], &bits[246..462])
+    match burst_type {
+        BurstType::Sync => {
+            let bits = bits_of::<366>(characters);
+            slotter::build_sdb(&bits[..120], &bits[120..150], &bits[150..])
+        }
+        BurstType::Normal1 | BurstType::Normal2 => {
+            let bits = bits_of::<462>(characters);
+            slotter::build_ndb(
+                burst_type.number(),
+                &bits[..216],
+                &bits[216..246],
+                &bits[246..],
+            )
+        }
     }
 }
 
-// The burst of a type, 4 sync, 1 or 2 normal, from its blocks' bits in burst order as characters 0 and 1, or their
-// refusal: 3, 4, or 5 for another type. For type 0, another letter, no length is judged.
-pub fn answer(burst_type: u32, characters: &[u8]) -> Burst
-    ensures { builder_reply result ≡ answer_of burst_type characters.now }
+// The burst of a type from its blocks' bits in burst order as characters 0 and 1, or their refusal: 3, 4, or 5 for no type,
+// another letter, of which no length is judged.
+#[tactic(auto, using(crate::proofs::Judged::refuses, crate::proofs::Judged::accepts))]
+pub fn answer(burst_type: Option<BurstType>, characters: &[u8]) -> Result<Burst, Refusal>
+    ensures { builder_reply result ≡ answer_of (type_or_0 burst_type) characters.now }
 {
-    let number = refusal_of(burst_type, characters);
-    if number != ACCEPTED {
-        return Burst {
-            answer: Answer::Refused(number),
-            bits: [0; 510],
-        };
-    }
-    burst_of(burst_type, characters)
+    burst_of(judged_type(burst_type, characters)?, characters)
 }

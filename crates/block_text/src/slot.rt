@@ -1,17 +1,19 @@
 // The slot that a line asks for, and what is said of a line that cannot be sent.
-ghost use Rattle.std.specs.Prelude.{◌≡◌, cond, [], ◌∷◌};
-ghost use Rattle.block_text.specs.BlockText.{answer_of};
-ghost use Rattle.block_text.specs.Lines.{asked, answered, sent_for, complaint_of, complaint_for, slots_for, slots_of};
+ghost use Rattle.std.specs.Prelude.{◌≡◌, Some};
+ghost use Rattle.dsp_types.specs.Answers.{number_of};
+ghost use Rattle.block_text.specs.BlockText.{type_number, answer_of};
+ghost use Rattle.block_text.specs.Lines.{asked, answered, sent_for, complaint_of, complaint_for, complaint_in, slots_for, slots_of};
 
-use crate::answer;
-use crate::line::{Asked, behind, read};
+use crate::line::{Asked, read};
 use crate::uplink::uplink_slot;
-use dsp_types::{ACCEPTED, BAD_BIT};
+use crate::{BurstType, answer};
+use dsp_types::Refusal;
+use std::error::Error;
+use std::fmt;
 
 // What is wrong with a line, whose slot is then sent without a burst.
-#[derive(Clone, Copy)]
+#[derive(Clone, Copy, Debug, PartialEq, Eq)]
 pub enum Complaint {
-    None,
     // A character is neither 0 nor 1.
     NotBits,
     // The characters are too few or too many.
@@ -25,73 +27,67 @@ pub enum Complaint {
     Unknown,
 }
 
+impl fmt::Display for Complaint {
+    fn fmt<W: fmt::Write>(&self, f: &mut fmt::Formatter<W>) -> fmt::Result {
+        f.write_str(match self {
+            Complaint::NotBits => "a bit is neither 0 nor 1",
+            Complaint::SyncLength => "sync takes 366 bits",
+            Complaint::NormalLength => "a normal burst takes 462 bits",
+            Complaint::UplinkLength => "an uplink burst takes 432 bits",
+            Complaint::ControlLength => "a control burst takes 168 bits",
+            Complaint::Offset => "the offset is no even number from 0 to 48",
+            Complaint::Unknown => {
+                "not sync, normal1, normal2, uplink1, uplink2 or control with bits, nor empty"
+            }
+        })
+    }
+}
+
+impl Error for Complaint {}
+
 #[derive(Clone, Copy)]
-pub struct LineSlot {
+pub enum LineSlot {
     // An empty line and a remark ask for none.
-    pub is_sent: bool,
-    pub has_bits: bool,
-    pub bits: [u8; 510],
-    pub complaint: Complaint,
+    Nothing,
+    // A slot without a burst.
+    Empty,
+    Bits([u8; 510]),
 }
 
-#[tactic(auto, unfolding(crate::specs::Lines::slots_of))]
-pub(crate) fn without_burst(is_sent: bool, complaint: Complaint) -> LineSlot
-    ensures slots { slots_of result ≡ cond is_sent ([] ∷ []) [] }
-    ensures complaint { result.complaint ≡ complaint }
-{
-    LineSlot {
-        is_sent,
-        has_bits: false,
-        bits: [0; 510],
-        complaint,
-    }
-}
-
-// What is wrong with the characters of a burst of that type, which are answered with that number.
+// What is wrong with the characters of a burst of that type, which are refused.
 #[tactic(auto, unfolding(crate::specs::Lines::complaint_of))]
-fn complaint_of(burst_type: u32, number: u32) -> Complaint
-    ensures { result ≡ complaint_of burst_type number }
+fn complaint_of(burst_type: BurstType, refusal: Refusal) -> Complaint
+    ensures { Some result ≡ complaint_of (type_number burst_type) (number_of refusal) }
 {
-    if number == ACCEPTED {
-        return Complaint::None;
-    }
-    if number == BAD_BIT {
+    if refusal == Refusal::BadBit {
         return Complaint::NotBits;
     }
-    if burst_type == 4 {
-        Complaint::SyncLength
-    } else {
-        Complaint::NormalLength
+    match burst_type {
+        BurstType::Sync => Complaint::SyncLength,
+        BurstType::Normal1 | BurstType::Normal2 => Complaint::NormalLength,
     }
 }
 
-fn burst_slot(burst_type: u32, characters: &[u8]) -> LineSlot
-    ensures slots { slots_of result ≡ slots_for (answered burst_type (answer_of burst_type characters.now)) }
-    ensures complaint { result.complaint ≡ complaint_for (answered burst_type (answer_of burst_type characters.now)) }
+fn burst_slot(burst_type: BurstType, characters: &[u8]) -> Result<LineSlot, Complaint>
+    ensures slots { slots_of result ≡ slots_for (answered (type_number burst_type) (answer_of (type_number burst_type) characters.now)) }
+    ensures complaint { complaint_in result ≡ complaint_for (answered (type_number burst_type) (answer_of (type_number burst_type) characters.now)) }
 {
-    let burst = answer(burst_type, characters);
-    let number = burst.number();
-    let bits = burst.bits;
-    let complaint = complaint_of(burst_type, number);
-    LineSlot {
-        is_sent: true,
-        has_bits: number == ACCEPTED,
-        bits,
-        complaint,
+    match answer(Some(burst_type), characters) {
+        Ok(burst) => Ok(LineSlot::Bits(burst.bits)),
+        Err(refusal) => Err(complaint_of(burst_type, refusal)),
     }
 }
 
-// The slot of a line without its line end, and what is wrong with the line.
-pub fn slot_of(line: &[u8]) -> LineSlot
+// The slot of a line without its line end, or what is wrong with the line.
+pub fn slot_of(line: &[u8]) -> Result<LineSlot, Complaint>
     ensures slots { slots_of result ≡ slots_for (sent_for (asked line.now)) }
-    ensures complaint { result.complaint ≡ complaint_for (sent_for (asked line.now)) }
+    ensures complaint { complaint_in result ≡ complaint_for (sent_for (asked line.now)) }
 {
-    let wish = read(line);
-    match wish {
-        Asked::Nothing => without_burst(false, Complaint::None),
-        Asked::Empty => without_burst(true, Complaint::None),
-        Asked::Burst(burst_type, at) => burst_slot(burst_type, behind(line, at)),
-        Asked::Uplink(burst_type) => uplink_slot(burst_type, behind(line, 8)),
-        Asked::Unknown => without_burst(true, Complaint::Unknown),
+    match read(line) {
+        Asked::Nothing => Ok(LineSlot::Nothing),
+        Asked::Empty => Ok(LineSlot::Empty),
+        Asked::Burst(burst_type, characters) => burst_slot(burst_type, characters),
+        Asked::Uplink(burst_type, text) => uplink_slot(burst_type, text),
+        Asked::Unknown => Err(Complaint::Unknown),
     }
 }

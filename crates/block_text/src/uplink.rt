@@ -1,129 +1,144 @@
 // The slot that an uplink line asks for: a burst at an offset.
-ghost use Rattle.std.specs.Prelude.{◌≡◌, ◌≤◌, length};
-ghost use Rattle.block_text.specs.UplinkLines.{first_word, digit_of, offset_of, not_offset, uplink_wanted, uplink_slot};
-ghost use Rattle.block_text.specs.Lines.{uplink, length_complaint, uplink_sent, sent_for, slots_for, complaint_for, slots_of};
+ghost use Rattle.std.specs.Prelude.{◌≡◌, ◌+◌, ◌<◌, ◌≤◌, [], length, take, drop, true, false, Some, MatchOption};
+ghost use Rattle.slotter.specs.Uplink.{uplink_reply, uplink_bits, placed};
+ghost use Rattle.block_text.specs.UplinkLines.{uplink_number, first_word, after_word, digit_of, offset_of, not_offset, uplink_wanted, uplink_slot};
+ghost use Rattle.block_text.specs.Lines.{uplink, length_complaint, sent_for, slots_for, slots_of, complaint_for, complaint_in};
 
-use crate::line::behind;
-use crate::slot::{Complaint, LineSlot, without_burst};
+use crate::slot::{Complaint, LineSlot};
 use crate::{bits_of, not_characters};
-use text::front;
+use dsp_types::Refusal;
 
-// What counts for a word that is no offset: it is above every one.
-const NO_OFFSET: usize = 99;
+// The type of an uplink burst: a normal one with a training sequence, or a control burst.
+#[derive(Clone, Copy, Debug, PartialEq, Eq)]
+pub(crate) enum UplinkType {
+    Normal1 = 1,
+    Normal2 = 2,
+    Control = 3,
+}
 
-// How many bytes stand before the first blank.
-fn word_length(text: &[u8]) -> usize
-    ensures { result ≡ length (first_word text.now) }
-{
-    for i in 0..text.len() {
-        if text[i] == b' ' {
-            return i;
+impl UplinkType {
+    fn number(self) -> u32
+        ensures { result ≡ uplink_number self }
+    {
+        self as u32
+    }
+
+    // How many bits both blocks have.
+    #[tactic(auto, unfolding(crate::specs::UplinkLines::uplink_wanted))]
+    fn length(self) -> usize
+        ensures { result ≡ uplink_wanted (uplink_number self) }
+    {
+        match self {
+            UplinkType::Control => 168,
+            UplinkType::Normal1 | UplinkType::Normal2 => 432,
         }
     }
-    text.len()
+
+    // What is wrong where they have another number.
+    #[tactic(auto, unfolding(crate::specs::Lines::length_complaint))]
+    fn length_complaint(self) -> Complaint
+        ensures { result ≡ length_complaint (uplink_number self) }
+    {
+        match self {
+            UplinkType::Control => Complaint::ControlLength,
+            UplinkType::Normal1 | UplinkType::Normal2 => Complaint::UplinkLength,
+        }
+    }
+}
+
+// Where the first blank stands: before it is the first word, behind it the rest.
+fn first_blank(text: &[u8]) -> Option<usize>
+    ensures { MatchOption result ((first_word text.now ≡ text.now) × (after_word text.now ≡ [])) (λ at. (at < length text.now) × (take at text.now ≡ first_word text.now) × (drop (at + 1) text.now ≡ after_word text.now)) }
+{
+    text.iter().position(|c| *c == b' ')
+}
+
+// The bytes before the first blank, and those behind it.
+fn split_word(text: &[u8]) -> (&[u8], &[u8])
+    ensures word { result.0.now ≡ first_word text.now }
+    ensures rest { result.1.now ≡ after_word text.now }
+{
+    match first_blank(text) {
+        Some(at) => (&text[..at], &text[at + 1..]),
+        None => (text, b""),
+    }
 }
 
 #[tactic(auto, unfolding(crate::specs::UplinkLines::digit_of))]
-fn digit_of(c: u8) -> usize
-    ensures value { result ≡ digit_of c }
-    ensures bound { result ≤ 99 }
+fn digit_of(c: u8) -> Option<usize>
+    ensures { MatchOption result (digit_of c ≡ 99) (λ n. (n ≡ digit_of c) × (n ≤ 9)) }
 {
-    if c < b'0' {
-        return NO_OFFSET;
-    }
-    if b'9' < c {
-        return NO_OFFSET;
-    }
-    (c - b'0') as usize
-}
-
-// The number that one or two digits are.
-fn offset_of(word: &[u8]) -> usize
-    ensures { result ≡ offset_of word.now }
-{
-    if word.len() == 1 {
-        return digit_of(word[0]);
-    }
-    if word.len() == 2 {
-        return 10 * digit_of(word[0]) + digit_of(word[1]);
-    }
-    NO_OFFSET
-}
-
-#[tactic(auto, unfolding(crate::specs::UplinkLines::not_offset))]
-fn not_offset(n: usize) -> bool
-    ensures { result ≡ not_offset n }
-{
-    (n % 2 != 0) | (48 < n)
-}
-
-// How many bits both blocks of a type have.
-#[tactic(auto, unfolding(crate::specs::UplinkLines::uplink_wanted))]
-fn uplink_length(burst_type: u32) -> usize
-    ensures { result ≡ uplink_wanted burst_type }
-{
-    if burst_type == 3 { 168 } else { 432 }
-}
-
-// A slot's bits with the burst of a type at the offset.
-fn placed_burst(burst_type: u32, offset: usize, characters: &[u8]) -> [u8; 510]
-    requires { length characters.now ≡ uplink_wanted burst_type }
-    ensures { result ≡ uplink_slot burst_type offset characters.now }
-{
-    let all = bits_of(characters);
-    let bits: &[u8] = &all;
-    let mut window = [0; 510];
-    if burst_type == 3 {
-        let burst = slotter::build_cub(&bits[0..84], &bits[84..168]);
-        let control = burst.bits;
-        slotter::place(offset, &control, &mut window);
+    if c.is_ascii_digit() {
+        Some((c - b'0') as usize)
     } else {
-        let burst = slotter::build_nub(burst_type, &bits[0..216], &bits[216..432]);
-        let normal = burst.bits;
-        slotter::place(offset, &normal, &mut window);
+        None
+    }
+}
+
+// The offset that a word is: one or two digits, an even number that is at most 48.
+#[tactic(auto, unfolding(crate::specs::UplinkLines::offset_of, crate::specs::UplinkLines::not_offset))]
+fn offset_of(word: &[u8]) -> Option<usize>
+    ensures { MatchOption result (not_offset (offset_of word.now) ≡ true) (λ n. (n ≡ offset_of word.now) × (not_offset n ≡ false)) }
+{
+    let offset = match word {
+        [c] => digit_of(*c)?,
+        [c, d] => 10 * digit_of(*c)? + digit_of(*d)?,
+        _ => return None,
+    };
+    if offset % 2 == 0 && offset <= 48 {
+        Some(offset)
+    } else {
+        None
+    }
+}
+
+// A slot's bits with a burst at the offset.
+#[tactic(auto, unfolding(slotter::specs::Uplink::uplink_reply, slotter::specs::Uplink::uplink_bits))]
+fn placed<const N: usize>(offset: usize, burst: Result<[u8; N], Refusal>) -> [u8; 510]
+    ensures { result ≡ placed 510 offset (uplink_bits (uplink_reply burst.entry)) }
+{
+    let mut window = [0; 510];
+    match &burst {
+        Ok(bits) => slotter::place(offset, bits, &mut window),
+        Err(_) => slotter::place(offset, b"", &mut window),
     }
     window
 }
 
-#[tactic(auto, unfolding(crate::specs::Lines::length_complaint))]
-fn length_complaint(burst_type: u32) -> Complaint
-    ensures { result ≡ length_complaint burst_type }
+// A slot's bits with the burst of a type at the offset.
+#[tactic(auto, unfolding(crate::specs::UplinkLines::uplink_wanted))]
+fn placed_burst(burst_type: UplinkType, offset: usize, characters: &[u8]) -> [u8; 510]
+    requires { length characters.now ≡ uplink_wanted (uplink_number burst_type) }
+    ensures { result ≡ uplink_slot (uplink_number burst_type) offset characters.now }
 {
-    if burst_type == 3 {
-        Complaint::ControlLength
-    } else {
-        Complaint::UplinkLength
+    match burst_type {
+        UplinkType::Control => {
+            let bits = bits_of::<168>(characters);
+            placed(offset, slotter::build_cub(&bits[..84], &bits[84..]))
+        }
+        UplinkType::Normal1 | UplinkType::Normal2 => {
+            let bits = bits_of::<432>(characters);
+            placed(
+                offset,
+                slotter::build_nub(burst_type.number(), &bits[..216], &bits[216..]),
+            )
+        }
     }
 }
 
-// The slot of a burst of that type, from its offset and its bits' characters.
-fn judged(burst_type: u32, offset: usize, characters: &[u8]) -> LineSlot
-    ensures slots { slots_of result ≡ slots_for (uplink_sent burst_type offset characters.now) }
-    ensures complaint { result.complaint ≡ complaint_for (uplink_sent burst_type offset characters.now) }
+// The slot of an uplink burst of that type, from what stands behind its word.
+#[tactic(auto, unfolding(crate::specs::Lines::sent_for, crate::specs::Lines::uplink_sent, crate::specs::Lines::slots_for, crate::specs::Lines::complaint_for, dsp_types::specs::Refusals::wrong_length))]
+pub(crate) fn uplink_slot(burst_type: UplinkType, text: &[u8]) -> Result<LineSlot, Complaint>
+    ensures slots { slots_of result ≡ slots_for (sent_for (uplink (uplink_number burst_type) text.now)) }
+    ensures complaint { complaint_in result ≡ complaint_for (sent_for (uplink (uplink_number burst_type) text.now)) }
 {
-    if not_offset(offset) {
-        return without_burst(true, Complaint::Offset);
-    }
-    if characters.len() != uplink_length(burst_type) {
-        return without_burst(true, length_complaint(burst_type));
+    let (word, characters) = split_word(text);
+    let offset = offset_of(word).ok_or(Complaint::Offset)?;
+    if characters.len() != burst_type.length() {
+        return Err(burst_type.length_complaint());
     }
     if not_characters(characters) {
-        return without_burst(true, Complaint::NotBits);
+        return Err(Complaint::NotBits);
     }
-    LineSlot {
-        is_sent: true,
-        has_bits: true,
-        bits: placed_burst(burst_type, offset, characters),
-        complaint: Complaint::None,
-    }
-}
-
-// The slot of an uplink burst of that type, 1 or 2 normal, 3 control, from what stands behind its word.
-pub(crate) fn uplink_slot(burst_type: u32, text: &[u8]) -> LineSlot
-    ensures slots { slots_of result ≡ slots_for (sent_for (uplink burst_type text.now)) }
-    ensures complaint { result.complaint ≡ complaint_for (sent_for (uplink burst_type text.now)) }
-{
-    let len = word_length(text);
-    let offset = offset_of(front(text, len));
-    judged(burst_type, offset, behind(behind(text, len), 1))
+    Ok(LineSlot::Bits(placed_burst(burst_type, offset, characters)))
 }

@@ -1,77 +1,86 @@
 // The logger's call: kept window bits are judged again. From C it is `tetra_judge` of modem.
 #![tactic(auto)]
 
-ghost use Rattle.std.specs.Prelude.{◌≡◌, ◌<◌, length};
-ghost use Rattle.logger.specs.Judge.{slot_type_of, wrong_window, judge_refusal, finding_bytes, judge_answer};
+ghost use Rattle.std.specs.Prelude.{◌≡◌, ◌<◌, ◌≤◌, length, None, Some, IfOk, nat_lt, if◌then◌else◌};
+ghost use Rattle.dsp_types.specs.Answers.{answer_number};
+ghost use Rattle.logger.specs.Judge.{slot_type_of, window_length, judge_refusal, finding_bytes, judge_answer};
 
 use burst_finder::{Finding, SlotType};
-use dsp_types::{ACCEPTED, BAD_BIT, BAD_KIND, BAD_LENGTH};
+use dsp_types::{Refusal, not_bits};
 
-// The slot kind of a number that is not refused.
-fn slot_type(kind: u32) -> SlotType
-    ensures { result ≡ slot_type_of kind }
+// The slot kind of a number; none where that is refused.
+#[tactic(auto, unfolding(crate::specs::Judge::slot_type_of))]
+fn slot_type(kind: u32) -> Option<SlotType>
+    ensures { result ≡ (if nat_lt 2 kind then None else Some (slot_type_of kind)) }
 {
     match kind {
-        0 => SlotType::Dl,
-        1 => SlotType::UlFull,
-        _ => SlotType::UlSub,
+        0 => Some(SlotType::Dl),
+        1 => Some(SlotType::UlFull),
+        2 => Some(SlotType::UlSub),
+        _ => None,
     }
 }
 
-// Whether the bits have another length than windows of the kind.
-fn wrong_window(kind: u32, bits: &[u8]) -> bool
-    ensures { result ≡ wrong_window kind bits.now }
+// How many bits a window of the kind has.
+#[tactic(auto, unfolding(crate::specs::Judge::window_length))]
+fn window_length(slot_type: SlotType) -> usize
+    ensures value { result ≡ window_length slot_type }
+    ensures bound { result ≤ 510 }
 {
-    if 2 < kind {
-        return false;
-    }
-    if kind < 2 {
-        bits.len() != 510
-    } else {
-        bits.len() != 254
+    match slot_type {
+        SlotType::Dl | SlotType::UlFull => 510,
+        SlotType::UlSub => 254,
     }
 }
 
-// The refusal of a call, or 0.
-fn refusal(kind: u32, bits: &[u8], answer: &[u8]) -> u32
-    ensures { result ≡ judge_refusal kind bits.now answer.now }
+// The slot kind of a call that is not refused.
+#[tactic(auto, unfolding(crate::specs::Judge::judge_refusal, crate::specs::Judge::wrong_window, dsp_types::specs::Refusals::wrong_length))]
+fn judged_type(kind: u32, bits: &[u8], answer: &[u8]) -> Result<SlotType, Refusal>
+    ensures refusal { answer_number result ≡ judge_refusal kind bits.now answer.now }
+    ensures kind { IfOk result (λ t. t ≡ slot_type_of kind) }
+    ensures window { IfOk result (λ t. length bits.now ≤ 510) }
+    ensures six { IfOk result (λ t. length answer.now ≡ 6) }
 {
-    if answer.len() != 6 {
-        return BAD_LENGTH;
+    let known = slot_type(kind);
+    let is_window = match known {
+        Some(slot_type) => bits.len() == window_length(slot_type),
+        None => true,
+    };
+    if answer.len() != 6 || !is_window {
+        return Err(Refusal::BadLength);
     }
-    if wrong_window(kind, bits) {
-        return BAD_LENGTH;
+    if not_bits(bits) {
+        return Err(Refusal::BadBit);
     }
-    if dsp_types::not_bits(bits) {
-        return BAD_BIT;
-    }
-    if 2 < kind { BAD_KIND } else { ACCEPTED }
+    known.ok_or(Refusal::BadKind)
 }
 
 // The six answer bytes of a finding.
+#[tactic(auto, unfolding(crate::specs::Judge::finding_bytes))]
 fn write_answer(f: Finding, answer: &mut [u8])
     requires { (f.train_errs < 256) × (f.burst_pos < 65536) × (f.burst_len < 65536) × (length answer.old ≡ 6) }
     ensures { answer.new ≡ finding_bytes f }
 {
     let train_type = f.train_type;
-    answer[0] = train_type.number();
-    answer[1] = f.train_errs as u8;
-    answer[2] = (f.burst_pos % 256) as u8;
-    answer[3] = (f.burst_pos / 256) as u8;
-    answer[4] = (f.burst_len % 256) as u8;
-    answer[5] = (f.burst_len / 256) as u8;
+    let [pos_low, pos_high] = (f.burst_pos as u16).to_le_bytes();
+    let [len_low, len_high] = (f.burst_len as u16).to_le_bytes();
+    answer.copy_from_slice(&[
+        train_type.number(),
+        f.train_errs as u8,
+        pos_low,
+        pos_high,
+        len_low,
+        len_high,
+    ]);
 }
 
-// Judges kept window bits again: fills the six answer bytes and returns 0, or returns the refusal's number and leaves them alone.
-pub fn judge(kind: u32, bits: &[u8], answer: &mut [u8]) -> u32
-    ensures { (result ≡ judge_refusal kind bits.now answer.old) × (answer.new ≡ judge_answer kind bits.now answer.old) }
+// Judges kept window bits again: fills the six answer bytes, or refuses and leaves them alone.
+#[tactic(auto, unfolding(crate::specs::Judge::judge_answer), using(crate::proofs::Judging::room))]
+pub fn judge(kind: u32, bits: &[u8], answer: &mut [u8]) -> Result<(), Refusal>
+    ensures refusal { answer_number result ≡ judge_refusal kind bits.now answer.old }
+    ensures answer { answer.new ≡ judge_answer kind bits.now answer.old }
 {
-    let refused = refusal(kind, bits, &*answer);
-    if refused == ACCEPTED {
-        write_answer(
-            burst_finder::check_slot(slot_type(kind), bits),
-            &mut *answer,
-        );
-    }
-    refused
+    let slot_type = judged_type(kind, bits, &*answer)?;
+    write_answer(burst_finder::check_slot(slot_type, bits), answer);
+    Ok(())
 }

@@ -7,5 +7,5 @@ ghost use Rattle.logger.specs.Judge.{judge_refusal, judge_answer};
 pub extern "C" fn tetra_judge(kind: u32, bits: &[u8], answer: &mut [u8]) -> u32
     ensures { (result ≡ judge_refusal kind bits.now answer.old) × (answer.new ≡ judge_answer kind bits.now answer.old) }
 {
-    logger::judge(kind, bits, answer)
+    dsp_types::answer_number(&logger::judge(kind, bits, answer))
 }

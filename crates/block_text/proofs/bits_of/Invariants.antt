@@ -1,7 +1,7 @@
--- So many bits are set, and zeros stand behind them.
-use Rattle.std.proofs.Common.{◌≡◌, ◌++◌, map, take, drop, replicate}
+-- So many bits are set.
+use Rattle.std.proofs.Common.{◌≡◌, length, map, take}
 use Rattle.block_text.specs.BlockText.{character_bit}
 use Rattle.block_text.proofs.bits_of.Given as goal
 
 abbrev pub invariant-loop-i : goal.invariant-loop-i
-invariant-loop-i l = l.bits ≡ take l.i (map character_bit l.characters) ++ drop l.i (replicate 462 0)
+invariant-loop-i g l = (length l.bits ≡ length l.characters) × (take l.i l.bits ≡ map character_bit (take l.i l.characters))

@@ -1,19 +1,19 @@
 -- The parts of the bits are the blocks.
-use Rattle.std.proofs.Common.{◌∙◌, arith, length, drop, replicate}
-use Rattle.block_text.proofs.Blocks.{wanted_most, sync_blocks, normal_blocks}
+use Rattle.std.proofs.Common.{◌≡◌, ◌⊎◌, inl, inr, ◌∙◌, ap, arith}
+use Rattle.block_text.specs.BlockText.{type_number}
+use Rattle.block_text.proofs.Blocks.{sync_blocks, normal_blocks}
+use Rattle.block_text.specs.declared.BurstType.{BurstType}
+use Rattle.block_text.specs.declared.BurstType.TheVariants.{Normal1, Normal2}
 use Rattle.block_text.proofs.burst_of.Goals as goal
 
-pub bits_of-all-requires : goal.bits_of-all-requires
-bits_of-all-requires c = omega (arith, wanted_most c.args.burst_type)
+not_sync : (t : BurstType) → (t ≡ Normal1) ⊎ (t ≡ Normal2) → type_number t ≡ 4 → ⊥
+not_sync t (inl e) k = absurd (omega (arith, k, ap type_number e))
+not_sync t (inr e) k = absurd (omega (arith, k, ap type_number e))
 
-pub returns-then-burst_type-eq4 : goal.returns-then-burst_type-eq4
-returns-then-burst_type-eq4 c =
-    let cs = c.args.characters.now in
-    c.build_sdb.ensures
-    ∙ sync_blocks c.args.burst_type cs (drop (length cs) (replicate 462 0)) c.if-burst_type-eq4.true c.requires c.bits_of-all.ensures
+pub returns-in-Sync : goal.returns-in-Sync
+returns-in-Sync c =
+    c.build_sdb.ensures ∙ sync_blocks (type_number c.args.burst_type) c.args.characters.now c.requires c.bits_of-bits.ensures (ap type_number c.in-Sync.is)
 
-pub returns-else-burst_type-eq4 : goal.returns-else-burst_type-eq4
-returns-else-burst_type-eq4 c =
-    let cs = c.args.characters.now in
-    c.build_ndb.ensures
-    ∙ normal_blocks c.args.burst_type cs (drop (length cs) (replicate 462 0)) c.if-burst_type-eq4.false c.requires c.bits_of-all.ensures
+pub returns-in-Normal1 : goal.returns-in-Normal1
+returns-in-Normal1 c =
+    c.build_ndb.ensures ∙ rw c.number.ensures (normal_blocks (type_number c.args.burst_type) c.args.characters.now c.requires c.bits_of-bits-in-Normal1.ensures (not_sync c.args.burst_type c.in-Normal1.is))

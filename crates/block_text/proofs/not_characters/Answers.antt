@@ -1,13 +1,12 @@
--- One more character is looked at.
-use Rattle.std.proofs.Common.{arith, refl}
-use Rattle.block_text.proofs.Characters.{one_more, no_more}
+-- std's search is the definition's.
+use Rattle.std.proofs.Common.{rules, tests, ◌∙◌}
+use Rattle.std.proofs.lemmas.Iterator.{YieldsList-from_slice}
+use Rattle.std.proofs.lemmas.Iterator.Search.{any_from_yields_List}
+use Rattle.block_text.specs.BlockText.{not_character}
+use Rattle.block_text.proofs.Characters.{any_not}
 use Rattle.block_text.proofs.not_characters.Goals as goal
 
-pub loop-i-init : goal.loop-i-init
-loop-i-init c = refl
-
-pub loop-i-preserved : goal.loop-i-preserved
-loop-i-preserved c = rw c.not_character-found.ensures (one_more c.args.characters.now c.loop-i.found c.loop-i.i (omega arith) c.loop-i.invariant)
-
 pub returns : goal.returns
-returns c = no_more c.args.characters.now c.loop-i.found c.loop-i.i (omega arith) c.loop-i.invariant
+returns c =
+    any_from_yields_List not_character _ _ _ c.any.ensures.ran (YieldsList-from_slice c.args.characters.now cc) (λ x b q k. search (rules, tests))
+    ∙ any_not c.args.characters.now

@@ -1,24 +1,25 @@
 -- The parts of the bits are the blocks.
-use Rattle.std.proofs.Common.{arith, ap, ◌∙◌, length, drop, replicate}
-use Rattle.slotter.specs.Uplink.{uplink_bits, placed}
-use Rattle.slotter.proofs.UplinkAnswers.{told_uplink_bits}
-use Rattle.block_text.specs.UplinkLines.{uplink_slot}
-use Rattle.block_text.proofs.Blocks.{uplink_most, control_blocks, uplink_blocks}
+use Rattle.std.proofs.Common.{◌≡◌, ◌⊎◌, inl, inr, ◌∙◌, ap, arith}
+use Rattle.slotter.specs.Uplink.{UplinkReply, uplink_bits, placed}
+use Rattle.block_text.specs.UplinkLines.{uplink_number, uplink_slot}
+use Rattle.block_text.proofs.Blocks.{control_blocks, uplink_blocks}
+use Rattle.block_text.specs.declared.uplink.UplinkType.{UplinkType}
+use Rattle.block_text.specs.declared.uplink.UplinkType.TheVariants.{Normal1, Normal2}
 use Rattle.block_text.proofs.uplink.placed_burst.Goals as goal
 
-pub bits_of-all-requires : goal.bits_of-all-requires
-bits_of-all-requires c = omega (arith, uplink_most c.args.burst_type)
+not_control : (t : UplinkType) → (t ≡ Normal1) ⊎ (t ≡ Normal2) → uplink_number t ≡ 3 → ⊥
+not_control t (inl e) k = absurd (omega (arith, k, ap uplink_number e))
+not_control t (inr e) k = absurd (omega (arith, k, ap uplink_number e))
 
-pub returns-then-burst_type-eq3 : goal.returns-then-burst_type-eq3
+pub returns-in-Control : goal.returns-in-Control
 unfolding uplink_slot
-returns-then-burst_type-eq3 c =
-    let cs = c.args.characters.now in
-    let k = control_blocks c.args.burst_type cs (drop (length cs) (replicate 462 0)) c.requires c.bits_of-all.ensures c.if-burst_type-eq3.true in
-    c.place.ensures ∙ ap (placed 510 c.args.offset) (told_uplink_bits _ _ ∙ ap uplink_bits (c.build_cub-burst.ensures ∙ k))
+returns-in-Control c =
+    let k = control_blocks (uplink_number c.args.burst_type) c.args.characters.now c.requires c.bits_of-bits.ensures (ap uplink_number c.in-Control.is) in
+    c.placed.ensures ∙ ap (λ (t : UplinkReply). placed 510 c.args.offset (uplink_bits t)) (c.build_cub.ensures ∙ k)
 
-pub returns-else-burst_type-eq3 : goal.returns-else-burst_type-eq3
+pub returns-in-Normal1 : goal.returns-in-Normal1
 unfolding uplink_slot
-returns-else-burst_type-eq3 c =
-    let cs = c.args.characters.now in
-    let k = uplink_blocks c.args.burst_type cs (drop (length cs) (replicate 462 0)) c.requires c.bits_of-all.ensures c.if-burst_type-eq3.false in
-    c.place-else-burst_type-eq3.ensures ∙ ap (placed 510 c.args.offset) (told_uplink_bits _ _ ∙ ap uplink_bits (c.build_nub-burst.ensures ∙ k))
+returns-in-Normal1 c =
+    let e = c.placed-in-Normal1.ensures ∙ ap (λ (t : UplinkReply). placed 510 c.args.offset (uplink_bits t)) c.build_nub.ensures in
+    e ∙ rw c.number.ensures (ap (λ (t : UplinkReply). placed 510 c.args.offset (uplink_bits t))
+    (uplink_blocks (uplink_number c.args.burst_type) c.args.characters.now c.requires c.bits_of-bits-in-Normal1.ensures (not_control c.args.burst_type c.in-Normal1.is)))
