@@ -3,6 +3,7 @@ use mathlib.Core.Path.{◌≡◌, refl, sym, ◌∙◌}
 use Prim.Native.Nat.{ℕ}
 use native.Mathlib.Omega.{arith}
 use Rattle.std.specs.Prelude.{Result, Ok, Err, OnOk, OnErr}
+use Rattle.std.specs.Result.{result_unwrap_or}
 use Rattle.dsp_types.specs.declared.refusals.Refusal.{Refusal}
 use Rattle.dsp_types.specs.declared.refusals.Refusal.TheVariants.{BadSample, BadCounter, BadLength, BadBit, BadTraining, BadSlot, BadKind, PastCounter, NoSlot, NeedMoreData, NotFollowing}
 use Rattle.dsp_types.specs.Answers.{number_of, answer_number}
@@ -21,6 +22,13 @@ pub taken : {n : ℕ} (a : Result RxSlot Refusal) {reply : Reply RxSlot} → n �
 unfolding reply_number take_reply_of
 taken (Ok slot) e f = e ∙ rw (← f)
 taken (Err refusal) e f = e ∙ rw (← f)
+
+-- the slot that was taken, or the empty one
+pub slot_or_empty : {slot none : RxSlot} (a : Result RxSlot Refusal) {reply : Reply RxSlot} → slot ≡ result_unwrap_or a none → none ≡ empty_slot → take_reply_of a ≡ reply
+    → slot ≡ slot_taken reply
+unfolding slot_taken take_reply_of
+slot_or_empty (Ok s) e z f = e ∙ rw (← f)
+slot_or_empty (Err refusal) e z f = e ∙ z ∙ rw (← f)
 
 -- none is refused with 0
 number_some : (refusal : Refusal) → number_of refusal ≡ 0 → ⊥

@@ -164,7 +164,7 @@ pub extern "C" fn tetra_state_take(
     let taken = state.take_demodulated_slot(slot, subslot1, subslot2);
     TetraTaken {
         refusal: answer_number(&taken),
-        slot: taken.unwrap_or_else(|_| empty_slot()),
+        slot: taken.unwrap_or(empty_slot()),
         state,
     }
 }
