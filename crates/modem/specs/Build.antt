@@ -1,6 +1,7 @@
 -- The burst builders from C: the burst goes into lent bytes (01, "Refusals", "Burst bits"; 02, point 1). Definitions only.
-use Rattle.std.specs.Prelude.{cond, List, ℕ, zero, suc}
-use Rattle.dsp_types.specs.Refusals.{bad_length, wrong_length}
+use Rattle.std.specs.Prelude.{cond, List, ℕ, zero, suc, Result, Ok, Err}
+use Rattle.dsp_types.specs.declared.refusals.Refusal.{Refusal}
+use Rattle.dsp_types.specs.Refusals.{accepted, bad_length, wrong_length}
 use Rattle.slotter.specs.Bursts.{BuilderReply}
 use Rattle.slotter.specs.Uplink.{UplinkReply, uplink_number, uplink_bits}
 
@@ -12,6 +13,11 @@ lend_refusal n number bits = cond (wrong_length n bits) bad_length number
 unfoldable pub lent_unless : ℕ → List ℕ → List ℕ → List ℕ
 lent_unless zero after before = after
 lent_unless (suc n) after before = before
+
+-- the lent bytes after a builder's answer of n bits: the burst, or as they were
+unfoldable pub lent_answer : ℕ → Result (List ℕ) Refusal → List ℕ → List ℕ
+lent_answer n (Ok burst) bits = lent_unless (lend_refusal n accepted bits) burst bits
+lent_answer n (Err r) bits = bits
 
 -- ---- a downlink burst: 510 lent bytes
 

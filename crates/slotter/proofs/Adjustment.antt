@@ -8,6 +8,9 @@ use native.Mathlib.Omega.{arith}
 use lib.IntN.{ℤ, pos, negsuc, ◌+ℤ◌, sub_ℕ}
 use lib.ListN.{length}
 use lib.Dec.{ltb, eqb}
+use mir.Syntax.{w32}
+use mir.Val.{of_z}
+use Rattle.std.specs.Int.{int_rem_euclid}
 use borrow.Author.Tests.{ltb-true, ltb-false}
 use Rattle.dsp_types.specs.Phases.{phase_of, modulo8}
 use Rattle.slotter.specs.Phases.{phase_sum, cancels, adjustment}
@@ -101,3 +104,49 @@ adjustment_only sum (suc zero) (suc zero) h k e = at_modulo sum 3 (omega (arith,
 adjustment_only sum zero (suc (suc b)) h k e = absurd (omega arith)
 adjustment_only sum (suc zero) (suc (suc b)) h k e = absurd (omega arith)
 adjustment_only sum (suc (suc a)) b h k e = absurd (omega arith)
+
+-- ---- the symbol by what the code takes the sum to
+
+eight_cases : (P : ℕ → Type 0) → P 0 → P 1 → P 2 → P 3 → P 4 → P 5 → P 6 → P 7 → (m : ℕ) → m < 8 → P m
+eight_cases P p₀ p₁ p₂ p₃ p₄ p₅ p₆ p₇ zero h = p₀
+eight_cases P p₀ p₁ p₂ p₃ p₄ p₅ p₆ p₇ (suc zero) h = p₁
+eight_cases P p₀ p₁ p₂ p₃ p₄ p₅ p₆ p₇ (suc (suc zero)) h = p₂
+eight_cases P p₀ p₁ p₂ p₃ p₄ p₅ p₆ p₇ (suc (suc (suc zero))) h = p₃
+eight_cases P p₀ p₁ p₂ p₃ p₄ p₅ p₆ p₇ (suc (suc (suc (suc zero)))) h = p₄
+eight_cases P p₀ p₁ p₂ p₃ p₄ p₅ p₆ p₇ (suc (suc (suc (suc (suc zero))))) h = p₅
+eight_cases P p₀ p₁ p₂ p₃ p₄ p₅ p₆ p₇ (suc (suc (suc (suc (suc (suc zero)))))) h = p₆
+eight_cases P p₀ p₁ p₂ p₃ p₄ p₅ p₆ p₇ (suc (suc (suc (suc (suc (suc (suc zero))))))) h = p₇
+eight_cases P p₀ p₁ p₂ p₃ p₄ p₅ p₆ p₇ (suc (suc (suc (suc (suc (suc (suc (suc m)))))))) h = absurd (omega arith)
+
+-- what the code's branches make of a remainder
+abbrev pub named : ℕ → List ℕ
+named m = cond (eqb m 7) (0 ∷ 0 ∷ []) (cond (eqb m 5) (0 ∷ 1 ∷ []) (cond (eqb m 1) (1 ∷ 0 ∷ []) (1 ∷ 1 ∷ [])))
+
+-- the remainder is below 8, and not negative
+rest_is : (sum : ℤ) → int_rem_euclid sum (pos 8) ≡ pos (modulo8 sum)
+unfolding modulo8
+rest_is (pos n) = refl
+rest_is (negsuc n) = refl
+
+pub rest_number : (sum : ℤ) → of_z w32 (int_rem_euclid sum (pos 8)) ≡ modulo8 sum
+rest_number sum = ap (of_z w32) (rest_is sum) ∙ omega (arith, modulo8_lt sum)
+
+pub names : (sum : ℤ) → adjustment sum ≡ named (modulo8 sum)
+unfolding modulo8 phase_of cancels_at adjustment_at
+names sum = adjustment_at_lem sum ∙ eight_cases (λ m. adjustment_at m ≡ named m) refl refl refl refl refl refl refl refl (modulo8 sum) (modulo8_lt sum)
+
+-- ---- the symbol has two bits
+
+-- the adjustment is one of four symbols
+four_symbols : (P : List ℕ → Type 0) → P (0 ∷ 0 ∷ []) → P (0 ∷ 1 ∷ []) → P (1 ∷ 0 ∷ []) → P (1 ∷ 1 ∷ []) → (z : ℤ) → P (adjustment z)
+unfolding adjustment
+four_symbols P p₁ p₃ p₋₁ p₋₃ z = go (cancels z 0 0) (cancels z 0 1) (cancels z 1 0)
+  where
+    go : (a b c : Bool) → P (cond a (0 ∷ 0 ∷ []) (cond b (0 ∷ 1 ∷ []) (cond c (1 ∷ 0 ∷ []) (1 ∷ 1 ∷ []))))
+    go true b c = p₁
+    go false true c = p₃
+    go false false true = p₋₁
+    go false false false = p₋₃
+
+pub adjustment_length : (z : ℤ) → length (adjustment z) ≡ 2
+adjustment_length = four_symbols (λ bits. length bits ≡ 2) refl refl refl refl

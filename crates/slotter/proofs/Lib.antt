@@ -1,6 +1,5 @@
 pub mod Adjustment
 mod Phase
-mod Folding
 pub mod Windows
 pub mod Fields
 pub mod Refusal

@@ -1,46 +1,49 @@
--- The phase of a symbol and the sum over symbols, as the code's branches and its loop meet them.
+-- The sum over a window's symbols, as the code's loop meets them.
 use mathlib.Core.Path.{◌≡◌, refl, ap, sym, ◌∙◌}
 use mathlib.Core.List.{List, [], ◌∷◌}
-use Prim.Native.Nat.{ℕ, zero, suc, ◌+◌, ◌*◌, ◌≤◌, ◌<◌}
-use native.Mathlib.Numerals.{add-one, add-two}
+use Prim.Native.Nat.{ℕ, zero, suc, ◌+◌, ◌*◌, ◌/◌, ◌≤◌, ◌<◌}
 use native.Mathlib.Omega.{arith}
 use lib.IntN.{ℤ, pos, negsuc, ◌+ℤ◌, +ℤ_assoc, +ℤ_idr}
-use lib.ListN.{length, drop, get_or, length-drop}
+use lib.ListN.{length, take, drop, get_or, length-drop}
 use lib.Dec.{lit≤}
-use lib.Seq.{drop-cons}
+use lib.Seq.{drop-drop}
 use mir.Syntax.{w32}
 use mir.Val.{SFits}
+use Rattle.std.specs.Simd.{first_chunks}
 use Rattle.dsp_types.specs.Ints.{up, dn}
 use Rattle.dsp_types.proofs.IntLaws.{sum}
 use Rattle.dsp_types.specs.Phases.{phase_of}
 use Rattle.slotter.specs.Phases.{phase_sum}
 
-pub phase_01 : (b : ℕ) → (b ≡ 0 → ⊥) → pos 3 ≡ phase_of 0 b
-unfolding phase_of
-phase_01 zero h = absurd (h refl)
-phase_01 (suc b) h = refl
-
-pub phase_10 : (a : ℕ) → (a ≡ 0 → ⊥) → negsuc 0 ≡ phase_of a 0
-unfolding phase_of
-phase_10 zero h = absurd (h refl)
-phase_10 (suc a) h = refl
-
-pub phase_11 : (a b : ℕ) → (a ≡ 0 → ⊥) → (b ≡ 0 → ⊥) → negsuc 2 ≡ phase_of a b
-unfolding phase_of
-phase_11 zero b h k = absurd (h refl)
-phase_11 (suc a) zero h k = absurd (k refl)
-phase_11 (suc a) (suc b) h k = refl
-
 -- ---- one turn of the loop that sums
 
--- the symbol at place `at` goes from what is left to the sum
-pub one_more : (bits : List ℕ) (z : ℤ) (at : ℕ) → at + 1 < length bits → phase_sum bits ≡ z +ℤ phase_sum (drop at bits)
-    → phase_sum bits ≡ z +ℤ phase_of (get_or bits at 0) (get_or bits (at + 1) 0) +ℤ phase_sum (drop (at + 2) bits)
+-- symbol i is the bits from 2i on
+symbol_at : (bits : List ℕ) (n i : ℕ) → i < n → get_or (first_chunks 2 n bits) i [] ≡ take 2 (drop (2 * i) bits)
+symbol_at bits zero i h = absurd (omega arith)
+symbol_at bits (suc n) zero h = refl
+symbol_at bits (suc n) (suc i) h =
+    let e : 2 + 2 * i ≡ 2 * suc i = omega arith in
+    symbol_at (drop 2 bits) n i (omega arith) ∙ ap (take 2) (drop-drop (2 * i) 2 bits ∙ ap (λ (k : ℕ). drop k bits) e)
+
+first_symbol : (s : List ℕ) → 1 < length s → phase_sum s ≡ phase_of (get_or (take 2 s) 0 0) (get_or (take 2 s) 1 0) +ℤ phase_sum (drop 2 s)
 unfolding phase_sum
-one_more bits z at h e =
-    e
-    ∙ rw (drop-cons bits at 0 (omega arith), add-one at, drop-cons bits (suc at) 0 (omega (arith, add-one at)), add-two at)
-    (sym (+ℤ_assoc z (phase_of (get_or bits at 0) (get_or bits (suc at) 0)) (phase_sum (drop (suc (suc at)) bits))))
+first_symbol [] h = absurd (omega arith)
+first_symbol (a ∷ []) h = absurd (omega arith)
+first_symbol (a ∷ b ∷ s) h = refl
+
+module _ (bits : List ℕ) (symbols : List (List ℕ)) (z : ℤ) (i : ℕ) (c : symbols ≡ first_chunks 2 (length bits / 2) bits)
+    (e : phase_sum bits ≡ z +ℤ phase_sum (drop (2 * i) bits)) where
+  -- the phase of symbol i goes from what is left to the sum
+  pub one_more : i < length bits / 2 → phase_sum bits ≡ z +ℤ phase_of (get_or (get_or symbols i []) 0 0) (get_or (get_or symbols i []) 1 0) +ℤ phase_sum (drop (2 * (i + 1)) bits)
+  one_more h =
+      let s : List ℕ = drop (2 * i) bits in
+      let here : get_or symbols i [] ≡ take 2 s = ap (λ (l : List (List ℕ)). get_or l i []) c ∙ symbol_at bits (length bits / 2) i h in
+      let k : 2 * i + 2 ≡ 2 * (i + 1) = omega arith in
+      let left : drop 2 s ≡ drop (2 * (i + 1)) bits = drop-drop 2 (2 * i) bits ∙ ap (λ (n : ℕ). drop n bits) k in
+      rw (here, ← left)
+      (e
+      ∙ ap (λ (y : ℤ). z +ℤ y) (first_symbol s (omega (arith, length-drop (2 * i) bits)))
+      ∙ sym (+ℤ_assoc z (phase_of (get_or (take 2 s) 0 0) (get_or (take 2 s) 1 0)) (phase_sum (drop 2 s))))
 
 alone : (bits : List ℕ) → length bits ≤ 1 → phase_sum bits ≡ pos 0
 unfolding phase_sum
@@ -48,9 +51,9 @@ alone [] h = refl
 alone (a ∷ []) h = refl
 alone (a ∷ b ∷ bits) h = absurd (omega arith)
 
--- nothing is left
-pub no_more : (bits : List ℕ) (z : ℤ) (at : ℕ) → length bits ≤ at + 1 → phase_sum bits ≡ z +ℤ phase_sum (drop at bits) → z ≡ phase_sum bits
-no_more bits z at h e = sym (e ∙ ap (λ (s : ℤ). z +ℤ s) (alone (drop at bits) (omega (arith, length-drop at bits))) ∙ +ℤ_idr z)
+-- no symbol is left
+pub no_more : (bits : List ℕ) (z : ℤ) (i : ℕ) → length bits / 2 ≤ i → phase_sum bits ≡ z +ℤ phase_sum (drop (2 * i) bits) → z ≡ phase_sum bits
+no_more bits z i h e = sym (e ∙ ap (λ (s : ℤ). z +ℤ s) (alone (drop (2 * i) bits) (omega (arith, length-drop (2 * i) bits))) ∙ +ℤ_idr z)
 
 -- ---- how far a sum can go
 
@@ -73,9 +76,9 @@ small_phase zero (suc b) = record { above = lit≤ tt; below = lit≤ tt }
 small_phase (suc a) zero = record { above = lit≤ tt; below = lit≤ tt }
 small_phase (suc a) (suc b) = record { above = lit≤ tt; below = lit≤ tt }
 
-pub small_more : (z : ℤ) (a b at : ℕ) → Small z (2 * at) → Small (z +ℤ phase_of a b) (2 * (at + 2))
-small_more z a b at h =
-    let s = small_sum z (phase_of a b) (2 * at) h (small_phase a b) in
+pub small_more : (z : ℤ) (a b i : ℕ) → Small z (3 * i) → Small (z +ℤ phase_of a b) (3 * (i + 1))
+small_more z a b i h =
+    let s = small_sum z (phase_of a b) (3 * i) h (small_phase a b) in
     record { above = omega (arith, s.above); below = omega (arith, s.below) }
 
 pub small_fits : {z : ℤ} {n : ℕ} → Small z n → n < 2048 → SFits w32 z

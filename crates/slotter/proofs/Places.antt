@@ -13,9 +13,8 @@ use Rattle.slotter.specs.Phases.{phase_sum, adjustment}
 use Rattle.slotter.specs.Bursts.{first_window, last_window, downlink, sync_fields, normal_fields, training_of, training_refusal, sync_burst, normal_burst}
 use Rattle.slotter.specs.Uplink.{uplink, normal_uplink, control_uplink, uplink_number, uplink_bits}
 use Rattle.slotter.specs.Places.{symbols, Adjusts, SyncPlaces, NormalPlaces, NormalUplinkPlaces, ControlUplinkPlaces}
-use Rattle.slotter.proofs.Adjustment.{adjustment_cancels, adjustment_only}
+use Rattle.slotter.proofs.Adjustment.{adjustment_cancels, adjustment_only, adjustment_length}
 use Rattle.slotter.proofs.Windows.{first_odd, last_odd}
-use Rattle.slotter.proofs.Folding.{adjustment_length}
 use Rattle.slotter.proofs.Fields.{training_length}
 use Rattle.slotter.proofs.Refusal.{right_lengths, right_pair}
 use Rattle.slotter.proofs.Answers.{burst_number, burst_bits}
@@ -209,11 +208,11 @@ pub normal_uplink_places : (k : ℕ) (blk1 blk2 : List ℕ) → uplink_number (n
     → NormalUplinkPlaces k blk1 blk2 (uplink_bits (normal_uplink k blk1 blk2))
 unfolding normal_uplink
 normal_uplink_places k blk1 blk2 e =
-    let z = sym (uplink_number_lem _ 462 _) ∙ e in
+    let z = sym (uplink_number_lem _ _) ∙ e in
     let p = right_pair 216 blk1 blk2 (training_refusal k) z in
     let s = training_of k in
     let q = training_length k in
-    rw (uplink_bits_lem _ 462 (uplink s blk1 blk2) z)
+    rw (uplink_bits_lem _ (uplink s blk1 blk2) z)
     (record {
       whole = uplink_length s blk1 blk2 216 22 q p.0 p.1;
       head = uplink_head s blk1 blk2 216 22 q p.0 p.1;
@@ -226,10 +225,10 @@ normal_uplink_places k blk1 blk2 e =
 pub control_uplink_places : (blk1 blk2 : List ℕ) → uplink_number (control_uplink blk1 blk2) ≡ accepted → ControlUplinkPlaces blk1 blk2 (uplink_bits (control_uplink blk1 blk2))
 unfolding control_uplink
 control_uplink_places blk1 blk2 e =
-    let z = sym (uplink_number_lem _ 206 _) ∙ e in
+    let z = sym (uplink_number_lem _ _) ∙ e in
     let p = right_pair 84 blk1 blk2 0 z in
     let q = uplink_fixed.1 in
-    rw (uplink_bits_lem _ 206 (uplink extended blk1 blk2) z)
+    rw (uplink_bits_lem _ (uplink extended blk1 blk2) z)
     (record {
       whole = uplink_length extended blk1 blk2 84 30 q p.0 p.1;
       head = uplink_head extended blk1 blk2 84 30 q p.0 p.1;

@@ -1,21 +1,14 @@
--- A window with a burst in it, as the code's loop writes it bit by bit, and what stands in it: for any window, offset and burst.
-use mathlib.Core.Path.{◌≡◌, sym, ◌∙◌}
-use mathlib.Core.List.{List, ◌++◌, append-nil}
-use Prim.Native.Nat.{ℕ, suc, ◌+◌, ◌-◌, ◌≤◌, ◌<◌}
-use native.Mathlib.Nat.{zero-add}
-use native.Mathlib.Numerals.{add-one}
+-- A window with a burst in it, as the code leaves it, and what stands in it: for any window, offset and burst.
+use mathlib.Core.Path.{◌≡◌, refl, sym, ap, ◌∙◌}
+use mathlib.Core.List.{List, [], ◌++◌, append_assoc, append-nil}
+use Prim.Native.Nat.{ℕ, ◌+◌, ◌-◌, ◌≤◌}
 use native.Mathlib.Omega.{arith}
 use native.Mathlib.Decide.{dec_le}
-use lib.ListN.{length, take, drop, get_or, set, replicate, length-append, length-replicate, get_or-replicate, drop_of_length-le, get_or-append, get_or-eq_default}
-use lib.Seq.{paste-suc, get_or-append-add, take-append-add, length-take-le}
+use lib.ListN.{length, take, drop, replicate, length-append, length-replicate, take-append-drop}
+use lib.Seq.{take-append-add, take-length, length-take-le}
+use Rattle.std.specs.Prelude.{min}
+use Rattle.std.proofs.lemmas.List.{take-append-le, take-replicate, drop-replicate}
 use Rattle.slotter.specs.Uplink.{placed}
-
--- one element more of s stands in d
-pub one_more : (d s : List ℕ) (i v : ℕ) → i < length d → i < length s → get_or s i 0 ≡ v → set (take i s ++ drop i d) i v ≡ take (i + 1) s ++ drop (i + 1) d
-one_more d s i v h k e =
-    let z : 0 + i ≡ i = zero-add i in
-    let y : 0 + suc i ≡ suc i = zero-add (suc i) in
-    rw (← e, add-one i) (rw (z, y) at (paste-suc d 0 s i 0 (omega arith) k))
 
 abbrev zeros : ℕ → List ℕ
 zeros n = replicate n 0
@@ -24,52 +17,59 @@ zeros_length : (n : ℕ) → length (zeros n) ≡ n
 zeros_length n = length-replicate n 0
 
 -- what a window is the first bits of
-abbrev pub line : ℕ → ℕ → List ℕ → List ℕ
+abbrev line : ℕ → ℕ → List ℕ → List ℕ
 line n offset burst = zeros offset ++ burst ++ zeros n
 
--- a zero, there or not
-zero_at : (n i : ℕ) → get_or (zeros n) i 0 ≡ 0
-zero_at n i =
-    elim (dec_le (suc i) n) [
-      | yes h ↦ get_or-replicate n i 0 0 h
-      | no h ↦ get_or-eq_default (zeros n) 0 (omega (arith, h, zeros_length n))
-    ]
-
--- zeros behind a list are what get_or gives there anyway
-zeros_behind : (n : ℕ) (l : List ℕ) (i : ℕ) → get_or (l ++ zeros n) i 0 ≡ get_or l i 0
-zeros_behind n l i =
-    elim (dec_le (suc i) (length l)) [
-      | yes h ↦ get_or-append l (zeros n) 0 i h
-      | no h ↦
-          let e : length l + (i - length l) ≡ i = omega (arith, h) in
-          rw e at (get_or-append-add l (zeros n) (i - length l) 0) ∙ zero_at n (i - length l) ∙ sym (get_or-eq_default l 0 (omega (arith, h)))
-    ]
-
 module _ (offset : ℕ) (burst : List ℕ) where
-  -- ---- bit i of it
-  pub before : (i : ℕ) → i < offset → 0 ≡ get_or (zeros offset ++ burst) i 0
-  before i h = sym (get_or-append (zeros offset) burst 0 i (omega (arith, zeros_length offset)) ∙ zero_at offset i)
-
-  pub within : (i : ℕ) → offset ≤ i → get_or burst (i - offset) 0 ≡ get_or (zeros offset ++ burst) i 0
-  within i h =
-      let e : length (zeros offset) + (i - offset) ≡ i = omega (arith, zeros_length offset) in
-      sym (rw e at (get_or-append-add (zeros offset) burst (i - offset) 0))
-
-  pub behind : (i : ℕ) → offset ≤ i → length burst ≤ i - offset → 0 ≡ get_or (zeros offset ++ burst) i 0
-  behind i h k = sym (get_or-eq_default burst 0 k) ∙ within i h
-
-  -- ---- the loop
   line_length : (n : ℕ) → n ≤ length (line n offset burst)
   line_length n = simp length-append (omega (arith, zeros_length n))
 
-  pub bit_more : {w : List ℕ} {v : ℕ} (d : List ℕ) (i : ℕ) → w ≡ take i (line (length d) offset burst) ++ drop i d → v ≡ get_or (zeros offset ++ burst) i 0 → i < length d
-      → set w i v ≡ take (i + 1) (line (length d) offset burst) ++ drop (i + 1) d
-  bit_more d i e f h =
-      rw e (one_more d (line (length d) offset burst) i _ h (omega (arith, line_length (length d))) (zeros_behind (length d) (zeros offset ++ burst) i ∙ sym f))
+  -- ---- as the code leaves it
 
-  pub bits_done : {w : List ℕ} (d : List ℕ) (i : ℕ) → w ≡ take i (line (length d) offset burst) ++ drop i d → i ≡ length d → w ≡ placed (length d) offset burst
+  -- an offset behind the end
+  off : (n : ℕ) → n ≤ offset → take n (line n offset burst) ≡ zeros n
+  off n h =
+      ap (take n) (append_assoc (zeros offset) burst (zeros n))
+      ∙ take-append-le n (zeros offset) (burst ++ zeros n) (omega (arith, zeros_length offset))
+      ∙ take-replicate n offset 0 h
+
+  -- one before it
+  on : (n : ℕ) → offset ≤ n → take n (line n offset burst) ≡ zeros offset ++ take (n - offset) (burst ++ zeros n)
+  on n h =
+      let e : length (zeros offset) + (n - offset) ≡ n = omega (arith, zeros_length offset) in
+      ap (take n) (append_assoc (zeros offset) burst (zeros n)) ∙ rw e at (take-append-add (zeros offset) (burst ++ zeros n) (n - offset))
+
+  -- k bits from the offset on
+  part : (n k : ℕ) → k ≤ n → take k (burst ++ zeros n) ≡ take (min (length burst) k) burst ++ zeros (k - min (length burst) k)
+  part n k h =
+      elim (dec_le k (length burst)) [
+        | yes l ↦
+            let m : min (length burst) k ≡ k = omega arith in
+            let z : k - k ≡ 0 = omega arith in
+            take-append-le k burst (zeros n) l ∙ rw (m, z) (sym (append-nil (take k burst)))
+        | no l ↦
+            let m : min (length burst) k ≡ length burst = omega (arith, l) in
+            let e : length burst + (k - length burst) ≡ k = omega (arith, l) in
+            rw (m, take-length burst) (rw e at (take-append-add burst (zeros n) (k - length burst)) ∙ ap (λ (r : List ℕ). burst ++ r) (take-replicate (k - length burst) n 0 (omega arith)))
+      ]
+
+  -- zeros, and over them what fits of the burst
+  pub left_as : {w c : List ℕ} {start len k : ℕ} (n : ℕ) → w ≡ zeros n → start ≡ min offset n → len ≡ min (length burst) (n - start) → c ≡ take len burst → k ≡ len
+      → take start w ++ (c ++ drop k (drop start w)) ≡ placed n offset burst
   unfolding placed
-  bits_done d i e f = e ∙ rw (f, drop_of_length-le d {i = length d} (omega arith)) (append-nil (take (length d) (line (length d) offset burst)))
+  left_as {start = start} {len = len} n e f g p q =
+      rw (e, p, q, drop-replicate {X = ℕ} start n 0, drop-replicate {X = ℕ} len (n - start) 0)
+      (elim (dec_le n offset) [
+        | yes h ↦
+            let s : start ≡ n = f ∙ omega arith in
+            let l : len ≡ 0 = g ∙ omega arith in
+            let z : n - n - 0 ≡ 0 = omega arith in
+            rw (l, s, z, take-replicate {X = ℕ} n n 0 (omega arith)) (append-nil (zeros n) ∙ sym (off n h))
+        | no h ↦
+            let s : start ≡ offset = f ∙ omega (arith, h) in
+            rw (g, s, take-replicate {X = ℕ} offset n 0 (omega (arith, h)))
+            (sym (on n (omega (arith, h)) ∙ ap (λ (r : List ℕ). zeros offset ++ r) (part n (n - offset) (omega arith))))
+      ])
 
   -- ---- what stands in a window
   module _ (n : ℕ) where
@@ -85,3 +85,9 @@ module _ (offset : ℕ) (burst : List ℕ) where
         let m : length l ≡ offset + length burst = length-append (zeros offset) burst ∙ omega (arith, zeros_length offset) in
         let e : length l + (n - (offset + length burst)) ≡ n = omega (arith, m) in
         rw e at (take-append-add l (zeros n) (n - (offset + length burst)))
+
+-- no burst leaves zeros
+pub placed_nothing : (n offset : ℕ) → placed n offset [] ≡ zeros n
+placed_nothing n offset =
+    sym (left_as offset [] {w = zeros n} {c = []} {start = min offset n} {len = 0} {k = 0} n refl refl (omega arith) refl refl)
+    ∙ take-append-drop (min offset n) (zeros n)

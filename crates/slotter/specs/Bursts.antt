@@ -1,9 +1,9 @@
 -- The downlink bursts and what their builders answer (01, "Refusals" and "Burst bits"; EN 300 392-2, clauses 9.4.4.2.5 and 9.4.4.2.6). Definitions only.
-use Rattle.std.specs.Prelude.{ℕ, zero, suc, ◌-◌, ◌*◌, Bool, cond, ◌||◌, List, [], ◌∷◌, ◌++◌, ℤ, eqb, take, drop, replicate}
+use Rattle.std.specs.Prelude.{ℕ, zero, suc, ◌-◌, ◌*◌, Bool, cond, ◌||◌, List, [], ◌∷◌, ◌++◌, ℤ, eqb, take, drop, replicate, Result, Ok, Err}
+use Rattle.dsp_types.specs.declared.refusals.Refusal.{Refusal}
+use Rattle.dsp_types.specs.Answers.{number_of}
 use Rattle.dsp_types.specs.Refusals.{accepted, bad_length, bad_bit, bad_training, wrong_length, not_bits}
 use Rattle.slotter.specs.declared.Burst.{Burst}
-use Rattle.slotter.specs.declared.Answer.{Answer}
-use Rattle.slotter.specs.declared.Answer.TheVariants.{Built, Refused}
 use Rattle.train_consts.specs.Training.{normal1, normal2, normal3, synchronization, frequency_correction}
 use Rattle.slotter.specs.Phases.{phase_sum, adjustment}
 
@@ -69,17 +69,14 @@ pub record BuilderReply : Type 0 where
   pub sums : List ℤ
   pub bits : List ℕ
 
--- the number and the values of each case: a burst has no refusal's number and two sums, a refusal its number alone
-unfoldable pub builder_reply : Burst → BuilderReply
-builder_reply burst = tell burst.answer burst.bits
-  where
-    tell : Answer → List ℕ → BuilderReply
-    tell (Built first last) bits = record { number = accepted; sums = first ∷ last ∷ []; bits = bits }
-    tell (Refused n) bits = record { number = n; sums = []; bits = bits }
-
 -- a refusal returns its number alone: no sums, and every bit 0
 unfoldable pub refusal : ℕ → BuilderReply
 refusal n = record { number = n; sums = []; bits = replicate 510 0 }
+
+-- the values of each case: a burst has no refusal's number and two sums, a refusal its number alone
+unfoldable pub builder_reply : Result Burst Refusal → BuilderReply
+builder_reply (Ok burst) = record { number = accepted; sums = burst.first_sum ∷ burst.last_sum ∷ []; bits = burst.bits }
+builder_reply (Err r) = refusal (number_of r)
 
 -- the answer with that number: the burst of those fields, or the refusal
 unfoldable pub burst_unless : ℕ → ℕ → List ℕ → BuilderReply

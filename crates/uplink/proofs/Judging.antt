@@ -8,6 +8,8 @@ use lib.Dec.{ltb, eqb}
 use lib.ListN.{length, take, replicate, length-replicate}
 use lib.Seq.{take_at, drop_at}
 use borrow.Author.Tests.{eq-eqb}
+use Rattle.std.specs.Prelude.{Result, Ok, Err, MatchResult}
+use Rattle.dsp_types.specs.declared.refusals.Refusal.{Refusal}
 use Rattle.dsp_types.specs.Refusals.{accepted, wrong_length, not_bits}
 use Rattle.dsp_types.proofs.Laws.{neither}
 use Rattle.train_consts.specs.Training.{normal1, normal2, extended, tail}
@@ -19,17 +21,15 @@ use Rattle.burst_finder.specs.Slots.{check_slot, get_burst}
 use Rattle.burst_finder.proofs.Findings.{view_is}
 use Rattle.logger.specs.Judge.{slot_type_of, window_length, wrong_window, finding_bytes, judge_refusal, judge_answer}
 use Rattle.slotter.specs.Bursts.{training_of, training_refusal}
-use Rattle.slotter.specs.declared.uplink.UplinkAnswer.{UplinkAnswer}
-use Rattle.slotter.specs.Uplink.{uplink, pair_refusal, UplinkReply, uplink_reply, normal_uplink, control_uplink, uplink_number, uplink_bits, placed}
-use Rattle.slotter.proofs.UplinkAnswers.{uplink_number_lem, uplink_bits_lem, told_uplink_number, told_uplink_bits}
+use Rattle.slotter.specs.Uplink.{uplink, pair_refusal, uplink_reply, normal_uplink, control_uplink, uplink_number, uplink_bits, placed}
+use Rattle.slotter.proofs.UplinkAnswers.{uplink_number_lem, uplink_bits_lem}
 use Rattle.slotter.proofs.Fields.{training_length}
-use Rattle.slotter.proofs.Placing.{placed_length, placed_whole}
+use Rattle.slotter.proofs.Placing.{placed_length, placed_whole, placed_nothing}
 use Rattle.slotter.proofs.Places.{normal_uplink_places, control_uplink_places}
 use Rattle.slotter.proofs.Refusal.{right_pair}
 use Rattle.slot_receiver.proofs.Taken.{bits_take}
-use Rattle.uplink.specs.declared.Judged.{Judged}
 use Rattle.uplink.specs.Placed.{normal_window, control_window, NormalReported, ControlReported}
-use Rattle.uplink.specs.Judging.{judged_of, judged_normal, judged_control, NormalFound, ControlFound}
+use Rattle.uplink.specs.Judging.{Told, judged_of, judged_normal, judged_control, NormalFound, ControlFound}
 use Rattle.uplink.proofs.Found.{normal1_reported, normal2_reported, before_reported, control_reported, at_placing}
 
 -- ---- bits alone
@@ -87,11 +87,11 @@ module _ (train : ℕ) (blk1 blk2 : List ℕ) (offset : ℕ) (built : uplink_num
 
   normal_number : pair_refusal 216 blk1 blk2 (training_refusal train) ≡ 0
   unfolding normal_uplink
-  normal_number = sym (uplink_number_lem _ 462 burst) ∙ built
+  normal_number = sym (uplink_number_lem _ burst) ∙ built
 
   pub normal_window_lem : normal_window train blk1 blk2 offset ≡ placed 510 offset burst
   unfolding normal_window normal_uplink
-  normal_window_lem = ap (placed 510 offset) (uplink_bits_lem _ 462 burst normal_number)
+  normal_window_lem = ap (placed 510 offset) (uplink_bits_lem _ burst normal_number)
 
   pub normal_length : length (normal_window train blk1 blk2 offset) ≡ 510
   normal_length = rw normal_window_lem (placed_length offset burst 510)
@@ -130,11 +130,11 @@ module _ (blk1 blk2 : List ℕ) (offset : ℕ) (built : uplink_number (control_u
 
   control_number : pair_refusal 84 blk1 blk2 accepted ≡ 0
   unfolding control_uplink
-  control_number = sym (uplink_number_lem _ 206 control) ∙ built
+  control_number = sym (uplink_number_lem _ control) ∙ built
 
   pub control_window_lem : control_window blk1 blk2 offset ≡ placed 254 offset control
   unfolding control_window control_uplink
-  control_window_lem = ap (placed 254 offset) (uplink_bits_lem _ 206 control control_number)
+  control_window_lem = ap (placed 254 offset) (uplink_bits_lem _ control control_number)
 
   pub control_length : length (control_window blk1 blk2 offset) ≡ 254
   control_length = rw control_window_lem (placed_length offset control 254)
@@ -173,37 +173,36 @@ module _ (kind : ℕ) (window : List ℕ) (known : ltb 2 kind ≡ false) (long :
 
 -- ---- what is proved of the answers
 
--- the builder's answer, its bits in a window, and the calls on that
-pub judged_window : (answer : UplinkAnswer) (bits : List ℕ) (reply : UplinkReply) (n offset kind : ℕ) (type : SlotType) {number : ℕ} {window : List ℕ}
-    → uplink_reply answer bits ≡ reply → number ≡ uplink_number (uplink_reply answer []) → window ≡ placed n offset bits
-    → judged_of number kind type window ≡ judged_of (uplink_number reply) kind type (placed n offset (uplink_bits reply))
-judged_window answer bits reply n offset kind type {number} {window} e f g =
-    ap (λ (m : ℕ). judged_of m kind type window) (f ∙ told_uplink_number answer bits ∙ ap uplink_number e)
-    ∙ ap (judged_of (uplink_number reply) kind type) (g ∙ ap (placed n offset) (told_uplink_bits answer bits ∙ ap uplink_bits e))
+-- the window in which a burst was placed, if one was built
+pub window_is : (burst : Result (List ℕ) Refusal) (n offset : ℕ) (window : List ℕ) → MatchResult burst (λ bits. window ≡ placed n offset bits) (λ _. window ≡ replicate n 0)
+    → window ≡ placed n offset (uplink_bits (uplink_reply burst))
+unfolding uplink_bits uplink_reply
+window_is (Ok bits) n offset window e = e
+window_is (Err r) n offset window e = e ∙ sym (placed_nothing n offset)
 
-pub normal_found : (train : ℕ) (blk1 blk2 : List ℕ) (offset : ℕ) (j : Judged) → j ≡ judged_normal train blk1 blk2 offset → j.number ≡ accepted
+pub normal_found : (train : ℕ) (blk1 blk2 : List ℕ) (offset : ℕ) (j : Told) → j ≡ judged_normal train blk1 blk2 offset → j.number ≡ accepted
     → NormalFound train blk1 blk2 offset j
 unfolding judged_normal judged_of slot_type_of window_length
 normal_found train blk1 blk2 offset j e n =
-    let built : uplink_number (normal_uplink train blk1 blk2) ≡ accepted = sym (ap (λ (j : Judged). j.number) e) ∙ n in
+    let built : uplink_number (normal_uplink train blk1 blk2) ≡ accepted = sym (ap (λ (j : Told). j.number) e) ∙ n in
     let w = normal_window train blk1 blk2 offset in
     let long = normal_length train blk1 blk2 offset built in
     let bits = normal_bits train blk1 blk2 offset built in
     record {
-      judged = ap (λ (j : Judged). j.refusal) e ∙ not_refused 1 w refl long bits;
-      finder = normal_reported train blk1 blk2 offset built (λ f. j.finding ≡ f) (ap (λ (j : Judged). j.finding) e);
-      logger = normal_reported train blk1 blk2 offset built (λ f. j.answer ≡ finding_bytes f) (ap (λ (j : Judged). j.answer) e ∙ told 1 w refl long bits);
+      judged = ap (λ (j : Told). j.refusal) e ∙ not_refused 1 w refl long bits;
+      finder = normal_reported train blk1 blk2 offset built (λ f. j.finding ≡ f) (ap (λ (j : Told). j.finding) e);
+      logger = normal_reported train blk1 blk2 offset built (λ f. j.answer ≡ finding_bytes f) (ap (λ (j : Told). j.answer) e ∙ told 1 w refl long bits);
     }
 
-pub control_found : (blk1 blk2 : List ℕ) (offset : ℕ) (j : Judged) → j ≡ judged_control blk1 blk2 offset → j.number ≡ accepted → ControlFound blk1 blk2 offset j
+pub control_found : (blk1 blk2 : List ℕ) (offset : ℕ) (j : Told) → j ≡ judged_control blk1 blk2 offset → j.number ≡ accepted → ControlFound blk1 blk2 offset j
 unfolding judged_control judged_of slot_type_of window_length
 control_found blk1 blk2 offset j e n =
-    let built : uplink_number (control_uplink blk1 blk2) ≡ accepted = sym (ap (λ (j : Judged). j.number) e) ∙ n in
+    let built : uplink_number (control_uplink blk1 blk2) ≡ accepted = sym (ap (λ (j : Told). j.number) e) ∙ n in
     let w = control_window blk1 blk2 offset in
     let long = control_length blk1 blk2 offset built in
     let bits = control_bits blk1 blk2 offset built in
     record {
-      judged = ap (λ (j : Judged). j.refusal) e ∙ not_refused 2 w refl long bits;
-      finder = control_said_lem blk1 blk2 offset built (λ f. j.finding ≡ f) (ap (λ (j : Judged). j.finding) e);
-      logger = control_said_lem blk1 blk2 offset built (λ f. j.answer ≡ finding_bytes f) (ap (λ (j : Judged). j.answer) e ∙ told 2 w refl long bits);
+      judged = ap (λ (j : Told). j.refusal) e ∙ not_refused 2 w refl long bits;
+      finder = control_said_lem blk1 blk2 offset built (λ f. j.finding ≡ f) (ap (λ (j : Told). j.finding) e);
+      logger = control_said_lem blk1 blk2 offset built (λ f. j.answer ≡ finding_bytes f) (ap (λ (j : Told). j.answer) e ∙ told 2 w refl long bits);
     }

@@ -1,34 +1,27 @@
--- The refusal is the definition's, and without one the blocks have their lengths.
-use Rattle.std.proofs.Common.{◌≡◌, refl, sym, ap, ◌∙◌, ℕ, List, length, arith, lit≤}
-use Rattle.slotter.specs.Bursts.{block_refusal, burst_unless, normal_burst, normal_cut}
-use Rattle.slotter.proofs.Answers.{refuses, accepts}
-use Rattle.slotter.proofs.Fields.{training_length, cut_length, cut}
-use Rattle.slotter.proofs.Refusal.{right_lengths}
+-- The refusal is the definition's, and so are the fields.
+use Rattle.std.proofs.Common.{ap, ◌∙◌}
+use Rattle.std.proofs.lemmas.Result.{err_from_is_err_and}
+use Rattle.slotter.specs.Bursts.{normal_fields, burst_unless, normal_burst, normal_cut}
+use Rattle.slotter.proofs.Answers.{number_positive, refuses, accepts}
+use Rattle.slotter.proofs.Refusal.{blocks_before, blocks_right}
 use Rattle.slotter.proofs.build_ndb.Goals as goal
 
--- no block is refused: each has its length
-lengths : {number : ℕ} (blk1 bbk blk2 : List ℕ) (refusal : ℕ) → number ≡ block_refusal 216 blk1 bbk blk2 refusal → number ≡ 0 → (length blk1 ≡ 216) × (length bbk ≡ 30) × (length blk2 ≡ 216)
-lengths blk1 bbk blk2 refusal e z = right_lengths 216 blk1 bbk blk2 refusal (sym e ∙ z)
-
-pub returns-then-number-ne-ACCEPTED : goal.returns-then-number-ne-ACCEPTED
+pub returns-in_err-block_refusal : goal.returns-in_err-block_refusal
 unfolding normal_burst
-returns-then-number-ne-ACCEPTED c =
-    refuses _ normal_cut _ (rw c.training_refusal.ensures at c.block_refusal-number.ensures) c.if-number-ne-ACCEPTED.true c.refused.ensures
+returns-in_err-block_refusal c =
+    let p = err_from_is_err_and c.from_residual.result c.from_residual.ensures.1 in
+    rw (p.1, p.2) (refuses _ _ normal_cut _ (blocks_before 216 _ _ _ _ (number_positive _) c.in_err-block_refusal.ensures.number))
 
-pub slice_bounds-joined-end : goal.slice_bounds-joined-end
-slice_bounds-joined-end c = omega (arith, lengths _ _ _ _ c.block_refusal-number.ensures c.if-number-ne-ACCEPTED.false)
-
-pub slice_bounds-joined-end-3 : goal.slice_bounds-joined-end-3
-slice_bounds-joined-end-3 c = omega (arith, lengths _ _ _ _ c.block_refusal-number.ensures c.if-number-ne-ACCEPTED.false)
-
-pub joined-requires : goal.joined-requires
-joined-requires c =
-    let l = lengths _ _ _ _ c.block_refusal-number.ensures c.if-number-ne-ACCEPTED.false in
-    (lit≤ tt, lit≤ tt, refl, omega (arith, l, cut_length c.args.bbk.now l.1, ap length c.training-sequence.ensures, training_length c.args.train))
+pub returns-in_err-sequence : goal.returns-in_err-sequence
+unfolding normal_burst
+returns-in_err-sequence c =
+    let p = err_from_is_err_and c.from_residual-in_err-sequence.result c.from_residual-in_err-sequence.ensures.1 in
+    rw (p.1, p.2) (refuses _ _ normal_cut _ (c.in_err-sequence.ensures.number ∙ blocks_right 216 _ _ _ _ c.in_ok-block_refusal.ensures.number))
 
 pub returns : goal.returns
-unfolding normal_burst
+unfolding normal_burst normal_fields
 returns c =
-    let l = lengths _ _ _ _ c.block_refusal-number.ensures c.if-number-ne-ACCEPTED.false in
-    accepts _ normal_cut _ (rw c.training_refusal.ensures at c.block_refusal-number.ensures) c.if-number-ne-ACCEPTED.false
-    (c.joined.ensures ∙ ap (burst_unless 0 normal_cut) (cut _ _ _ c.training-sequence.ensures l.1))
+    let a = c.args in
+    let s = c.in_ok-sequence.ensures in
+    accepts _ normal_cut _ (s.number ∙ blocks_right 216 _ _ _ _ c.in_ok-block_refusal.ensures.number)
+    (c.framed.ensures ∙ ap (burst_unless 0 normal_cut) (c.joined-fields.ensures ∙ rw (c.split_at.ensures.front, c.split_at.ensures.back, s.sequence)))

@@ -1,20 +1,17 @@
--- The refusal is the definition's, and without one the blocks have their lengths.
-use Rattle.std.proofs.Common.{refl, sym, ◌∙◌, arith, lit≤}
+-- The refusal is the definition's, and so are the fields.
+use Rattle.std.proofs.Common.{ap, ◌∙◌}
+use Rattle.std.proofs.lemmas.Result.{err_from_is_err_and}
 use Rattle.train_consts.specs.Training.{frequency_correction, synchronization}
-use Rattle.slotter.specs.Bursts.{sync_fields, sync_burst, sync_cut}
+use Rattle.slotter.specs.Bursts.{sync_fields, burst_unless, sync_burst, sync_cut}
 use Rattle.slotter.proofs.Answers.{refuses, accepts}
-use Rattle.slotter.proofs.Refusal.{right_lengths}
 use Rattle.slotter.proofs.build_sdb.Goals as goal
 
-pub returns-then-number-ne-ACCEPTED : goal.returns-then-number-ne-ACCEPTED
+pub returns-in_err-block_refusal : goal.returns-in_err-block_refusal
 unfolding sync_burst
-returns-then-number-ne-ACCEPTED c = refuses _ sync_cut _ c.block_refusal-number.ensures c.if-number-ne-ACCEPTED.true c.refused.ensures
-
-pub joined-requires : goal.joined-requires
-joined-requires c =
-    let l = right_lengths 120 _ _ _ 0 (sym c.block_refusal-number.ensures ∙ c.if-number-ne-ACCEPTED.false) in
-    (lit≤ tt, lit≤ tt, refl, omega (arith, l))
+returns-in_err-block_refusal c =
+    let p = err_from_is_err_and c.from_residual.result c.from_residual.ensures.1 in
+    rw (p.1, p.2) (refuses _ _ sync_cut _ c.in_err-block_refusal.ensures.number)
 
 pub returns : goal.returns
 unfolding sync_burst sync_fields frequency_correction synchronization
-returns c = accepts _ sync_cut _ c.block_refusal-number.ensures c.if-number-ne-ACCEPTED.false c.joined.ensures
+returns c = accepts _ sync_cut _ c.in_ok-block_refusal.ensures.number (c.framed.ensures ∙ ap (burst_unless 0 sync_cut) c.joined-fields.ensures)

@@ -1,17 +1,17 @@
 -- The calls are the definition's, and a burst that was built is found (`control_found`).
-use Rattle.std.proofs.Common.{◌≡◌, ◌∙◌}
+use Rattle.std.proofs.Common.{◌≡◌, ap, ◌∙◌}
 use Rattle.burst_finder.specs.declared.SlotType.TheVariants.{UlSub}
+use Rattle.slotter.specs.Uplink.{UplinkReply, uplink_number, uplink_bits, placed}
 use Rattle.uplink.specs.Placed.{control_window}
-use Rattle.uplink.specs.Judging.{judged_control}
-use Rattle.uplink.proofs.Judging.{judged_window, control_found}
+use Rattle.uplink.specs.Judging.{told, judged_of, judged_control}
+use Rattle.uplink.proofs.Judging.{control_found}
 use Rattle.uplink.proofs.judge_control.Goals as goal
 
 pub returns : goal.returns
-unfolding judged_control control_window
+unfolding told judged_control control_window
 returns c =
     let a = c.args in
-    let burst = c.build_cub-burst in
-    let judged : c.judge_window.result ≡ judged_control a.blk1.now a.blk2.now a.offset =
-    c.judge_window.ensures ∙ judged_window burst.result.answer burst.result.bits _ 254 _ 2 UlSub burst.ensures c.number.ensures c.place.ensures
+    let judged : told c.judge_placed.result ≡ judged_control a.blk1.now a.blk2.now a.offset =
+    c.judge_placed.ensures ∙ ap (λ (r : UplinkReply). judged_of (uplink_number r) 2 UlSub (placed 254 a.offset (uplink_bits r))) c.build_cub-burst.ensures
     in
-    record { answers = judged; found = control_found a.blk1.now a.blk2.now a.offset c.judge_window.result judged }
+    record { answers = judged; found = control_found a.blk1.now a.blk2.now a.offset (told c.judge_placed.result) judged }

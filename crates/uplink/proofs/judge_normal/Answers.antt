@@ -1,17 +1,17 @@
 -- The calls are the definition's, and a burst that was built is found (`normal_found`).
-use Rattle.std.proofs.Common.{◌≡◌, ◌∙◌}
+use Rattle.std.proofs.Common.{◌≡◌, ap, ◌∙◌}
 use Rattle.burst_finder.specs.declared.SlotType.TheVariants.{UlFull}
+use Rattle.slotter.specs.Uplink.{UplinkReply, uplink_number, uplink_bits, placed}
 use Rattle.uplink.specs.Placed.{normal_window}
-use Rattle.uplink.specs.Judging.{judged_normal}
-use Rattle.uplink.proofs.Judging.{judged_window, normal_found}
+use Rattle.uplink.specs.Judging.{told, judged_of, judged_normal}
+use Rattle.uplink.proofs.Judging.{normal_found}
 use Rattle.uplink.proofs.judge_normal.Goals as goal
 
 pub returns : goal.returns
-unfolding judged_normal normal_window
+unfolding told judged_normal normal_window
 returns c =
     let a = c.args in
-    let burst = c.build_nub-burst in
-    let judged : c.judge_window.result ≡ judged_normal a.train a.blk1.now a.blk2.now a.offset =
-    c.judge_window.ensures ∙ judged_window burst.result.answer burst.result.bits _ 510 _ 1 UlFull burst.ensures c.number.ensures c.place.ensures
+    let judged : told c.judge_placed.result ≡ judged_normal a.train a.blk1.now a.blk2.now a.offset =
+    c.judge_placed.ensures ∙ ap (λ (r : UplinkReply). judged_of (uplink_number r) 1 UlFull (placed 510 a.offset (uplink_bits r))) c.build_nub-burst.ensures
     in
-    record { answers = judged; found = normal_found a.train a.blk1.now a.blk2.now a.offset c.judge_window.result judged }
+    record { answers = judged; found = normal_found a.train a.blk1.now a.blk2.now a.offset (told c.judge_placed.result) judged }

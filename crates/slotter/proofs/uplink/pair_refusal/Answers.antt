@@ -1,8 +1,12 @@
--- What is tested is the definition's.
-use Rattle.std.proofs.Common.{◌∙◌}
-use Rattle.slotter.specs.Uplink.{pair_refusal}
+-- No length is wrong.
+use Rattle.std.proofs.Common.{◌≡◌, length, arith, false}
+use Rattle.std.proofs.lemmas.Result.{IfOk-weaker}
 use Rattle.slotter.proofs.uplink.pair_refusal.Goals as goal
 
-pub returns : goal.returns
-unfolding pair_refusal
-returns c = c.length_or_bit.ensures ∙ rw (c.wrong_length.ensures, c.wrong_length-2.ensures, c.not_bits.ensures, c.not_bits-2.ensures)
+pub returns-clause-lengths : goal.returns-clause-lengths
+returns-clause-lengths c =
+    let a = c.args in
+    IfOk-weaker c.length_or_bit.result (λ _. c.if-blk1-n.lengths ≡ false)
+    (λ _. (length a.blk1.now ≡ a.n) × (length a.blk2.now ≡ a.n))
+    (λ _ e. grind arith)
+    c.length_or_bit.ensures.lengths

@@ -1,10 +1,11 @@
--- Each turn is `bit_more`.
-use Rattle.std.proofs.Common.{arith}
-use Rattle.slotter.proofs.Placing.{bit_more, bits_done}
+-- What it leaves is the definition's (`left_as`).
+use Rattle.std.proofs.Common.{◌≡◌, length, replicate, rules, arith, ℕ}
+use Rattle.slotter.proofs.Placing.{left_as}
 use Rattle.slotter.proofs.uplink.place.Goals as goal
 
-pub loop-i-preserved : goal.loop-i-preserved
-loop-i-preserved c = bit_more c.args.offset c.args.burst.now c.args.window.now c.loop-i.i c.loop-i.invariant c.bit_at.ensures (omega arith)
-
 pub returns : goal.returns
-returns c = bits_done c.args.offset c.args.burst.now c.args.window.now c.loop-i.i c.loop-i.invariant (omega arith)
+returns c =
+    let n : ℕ = length c.args.window.now in
+    let zeros : c.fill.new.self ≡ replicate n 0 = search rules in
+    let long : length c.fill.new.self ≡ n = search rules in
+    left_as c.args.offset c.args.burst.now n zeros (rw long at c.min-start.ensures) (rw long at c.min-len.ensures) c.copy_from_slice.ensures.after (omega arith)
