@@ -55,9 +55,8 @@ fn run<H: Host, R: Read>(rt: &H, from: &mut R) {
             made[r] = true;
             out = out.add(rt, &mut answers, served.answer);
         } else {
-            let step = session.step(&line, next.len);
-            session = step.session;
-            out = out.add(rt, &mut answers, step.answer);
+            let answer = session.step(&line, next.len);
+            out = out.add(rt, &mut answers, answer);
         }
     }
     out.flush(rt, &answers);

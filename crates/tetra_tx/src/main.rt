@@ -21,8 +21,9 @@ struct Lines {
 }
 
 // Sends the slot of a line of that length.
-fn send_line<H: Host>(rt: &H, sender: Sender, line: &Line, len: usize) -> Sender {
-    sender.line(rt, text::trimmed(text::front(line, len), b'\r'))
+fn send_line<H: Host>(rt: &H, mut sender: Sender, line: &Line, len: usize) -> Sender {
+    sender.line(rt, text::trimmed(text::front(line, len), b'\r'));
+    sender
 }
 
 // Sends the slots of the lines that end in these bytes.
@@ -43,12 +44,11 @@ fn send_lines<H: Host>(rt: &H, lines: Lines, line: &mut Line, bytes: &[u8]) -> L
 
 // Sends the slot of the last line, where no newline ends it, and one without a burst.
 fn finish<H: Host>(rt: &H, lines: Lines, line: &Line) {
-    let sender = lines.sender;
+    let mut sender = lines.sender;
     if lines.len > 0 {
-        send_line(rt, sender, line, lines.len).silence(rt);
-    } else {
-        sender.silence(rt);
+        sender = send_line(rt, sender, line, lines.len);
     }
+    sender.silence(rt);
 }
 
 fn read_block<H: Host, R: Read>(rt: &H, from: &mut R, block: &mut Block) -> Option<usize> {

@@ -30,11 +30,9 @@ fn write_samples<H: Host>(rt: &H, parts: &[f32]) -> bool {
 
 impl Sender {
     pub(crate) fn new() -> Sender {
-        let modulator = Modulator::new();
-        let mapper = DqpskMapper::new();
         Sender {
-            modulator,
-            mapper,
+            modulator: Modulator::new(),
+            mapper: DqpskMapper::new(),
             counter: 0,
             slot: 0,
             lines: 0,
@@ -43,69 +41,52 @@ impl Sender {
     }
 
     // The counter is used up.
-    fn closed<H: Host>(self, rt: &H) -> Sender {
+    fn close<H: Host>(&mut self, rt: &H) {
         streams::tell(
             rt,
             b"tetra_tx: no more samples, the counter is at its end\n",
         );
-        let mut closed = self;
-        closed.is_open = false;
-        closed
+        self.is_open = false;
     }
 
     // Sends the next slot: 1,020 samples but for the first, which has 16 less for the filter's delay.
-    fn send<H: Host>(self, rt: &H, has_bits: bool, bits: &[u8]) -> Sender {
+    fn send<H: Host>(&mut self, rt: &H, bits: Option<&[u8]>) {
         if !self.is_open {
-            return self;
+            return;
         }
-        if COUNTERS <= self.counter {
-            return self.closed(rt);
-        }
-        if LAST_SLOT < self.slot {
-            return self.closed(rt);
+        if COUNTERS <= self.counter || LAST_SLOT < self.slot {
+            self.close(rt);
+            return;
         }
         let mut parts = [0.0f32; 2040];
-        let modulator = self.modulator;
-        let sent = modulator.block(
-            self.mapper,
+        let sent = self.modulator.block(
+            &mut self.mapper,
             SampleCount(self.counter as i64),
             TdmaTime(self.slot),
-            has_bits,
             bits,
             &mut parts,
         );
-        let is_written = write_samples(rt, &parts[..2 * sent.count]);
-        let next = sent.modulator;
-        let mapper = sent.mapper;
-        Sender {
-            modulator: next,
-            mapper,
-            counter: self.counter + sent.count as u64,
-            slot: self.slot + 1,
-            lines: self.lines,
-            is_open: is_written,
-        }
+        self.is_open = write_samples(rt, &parts[..2 * sent.count]);
+        self.counter += sent.count as u64;
+        self.slot += 1;
     }
 
     // Sends a slot without a burst.
-    pub(crate) fn silence<H: Host>(self, rt: &H) -> Sender {
-        self.send(rt, false, b"")
+    pub(crate) fn silence<H: Host>(&mut self, rt: &H) {
+        self.send(rt, None);
     }
 
     // Sends the slot that a line asks for. Once nothing more is sent no line is judged: where the output failed, the rest of
     // the input is not read, and the last line may be cut.
-    pub(crate) fn line<H: Host>(self, rt: &H, line: &[u8]) -> Sender {
+    pub(crate) fn line<H: Host>(&mut self, rt: &H, line: &[u8]) {
         if !self.is_open {
-            return self;
+            return;
         }
-        let mut next = self;
-        next.lines = self.lines.wrapping_add(1);
-        let slot = slot::of_line(rt, next.lines, line);
+        self.lines = self.lines.wrapping_add(1);
+        let slot = slot::of_line(rt, self.lines, line);
         if slot.is_sent {
             let bits = slot.bits;
-            next.send(rt, slot.has_bits, &bits)
-        } else {
-            next
+            self.send(rt, if slot.has_bits { Some(&bits) } else { None });
         }
     }
 }

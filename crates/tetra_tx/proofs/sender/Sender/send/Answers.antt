@@ -21,7 +21,7 @@ slice_bounds-write_samples-end g c =
     let within : 2 * c.block-sent.result.count ≤ length c.block-sent.new.out = omega arith in
     sym (length-take-le _ _ within)
 
-pub overflow_add-result : goal.overflow_add-result
-overflow_add-result g c =
+pub overflow_add-self : goal.overflow_add-self
+overflow_add-self g c =
     let few : c.block-sent.result.count ≤ 1020 = wrote_within _ _ _ _ _ _ _ _ (c.block-sent.ensures.block, c.block-sent.ensures.kept) in
     omega arith
