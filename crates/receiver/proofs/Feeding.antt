@@ -9,12 +9,10 @@ use lib.Seq.{drop-cons}
 use lib.IntN.{ℤ, pos, ◌+ℤ◌}
 use lib.Ieee.{Float, nan}
 use Rattle.dsp_types.specs.declared.ComplexSample.{ComplexSample}
-use Rattle.receiver.specs.declared.feed.Stop.{Stop}
-use Rattle.receiver.specs.declared.feed.Stop.TheVariants.{End, Slot, Refused}
 use Rattle.slot_receiver.specs.Receiver.{Receiver, valid_count, accept}
 use Rattle.slot_receiver.specs.Windows.{hands_over, accept_windows}
 use Rattle.slot_receiver.specs.Calls.{Outcome, sample_refusal, sampled, sample_outcome}
-use Rattle.receiver.specs.Feed.{interleaved, Block, fed_one, fed_by, feed_of}
+use Rattle.receiver.specs.Feed.{Stopped, at_end, at_slot, at_refusal, interleaved, Block, fed_one, fed_by, feed_of}
 use Rattle.slot_receiver.proofs.Outcomes.{kept, sample_refused, sample_accepted}
 
 -- ---- the samples of a row of parts
@@ -53,15 +51,15 @@ none_yet r parts c = go (feed_of r (interleaved parts) c)
     go b = let n : 0 + b.taken ≡ b.taken = omega arith in rw n
 
 -- what a call tells, from the equation of it all
-pub tell : (all b : Block) {taken : ℕ} {stop : Stop} {receiver : Receiver} → all ≡ b → (taken ≡ b.taken) × ((stop ≡ b.stop) × (receiver ≡ b.receiver))
+pub tell : (all b : Block) {taken : ℕ} {stop : Stopped} {receiver : Receiver} → all ≡ b → (taken ≡ b.taken) × ((stop ≡ b.stop) × (receiver ≡ b.receiver))
     → (taken ≡ all.taken) × ((stop ≡ all.stop) × (receiver ≡ all.receiver))
 tell all b e told =
     (told.0 ∙ sym (ap (λ (x : Block). x.taken) e), (told.1.0 ∙ sym (ap (λ (x : Block). x.stop) e), told.1.1 ∙ sym (ap (λ (x : Block). x.receiver) e)))
 
 module _ (all : Block) (k : ℕ) (r : Receiver) (c : ℤ) where
-  pub at_end : all ≡ ahead k (feed_of r [] c) → all ≡ record { taken = k; stop = End; receiver = r }
+  pub ends : all ≡ ahead k (feed_of r [] c) → all ≡ record { taken = k; stop = at_end; receiver = r }
   unfolding feed_of ahead
-  at_end e = let n : k + 0 ≡ k = omega arith in e ∙ rw n
+  ends e = let n : k + 0 ≡ k = omega arith in e ∙ rw n
 
   module _ (x : ComplexSample) (xs : List ComplexSample) (e : all ≡ ahead k (feed_of r (x ∷ xs) c)) where
     -- the block from this sample on, by what the sample comes to
@@ -72,9 +70,9 @@ module _ (all : Block) (k : ℕ) (r : Receiver) (c : ℤ) where
         e
         ∙ ap (λ (q : Outcome). ahead k (fed_by q.reply r (fed_one (hands_over q.windows) q.receiver (feed_of q.receiver xs (c +ℤ pos 1))))) f
 
-    pub at_refused : (n : ℕ) → n ≡ sample_refusal (valid_count r.next) x c → (n ≡ 0 → ⊥) → all ≡ record { taken = k; stop = Refused n; receiver = r }
+    pub refuses : (n : ℕ) → n ≡ sample_refusal (valid_count r.next) x c → (n ≡ 0 → ⊥) → all ≡ record { taken = k; stop = at_refusal n; receiver = r }
     unfolding fed_by ahead
-    at_refused n f h = let m : k + 0 ≡ k = omega arith in by (kept n r []) (sample_refused r x c f h) ∙ rw m
+    refuses n f h = let m : k + 0 ≡ k = omega arith in by (kept n r []) (sample_refused r x c f h) ∙ rw m
 
     module _ (ok : sample_refusal (valid_count r.next) x c ≡ 0) (q : Receiver) (g : q ≡ accept r x c) (b : Bool)
         (w : b ≡ hands_over (accept_windows r x c)) where
@@ -82,13 +80,13 @@ module _ (all : Block) (k : ℕ) (r : Receiver) (c : ℤ) where
       unfolding fed_by sampled
       one = by (sampled r x c) (sample_accepted r x c ok) ∙ rw (← g, ← w)
 
-      pub at_slot : b ≡ true → all ≡ record { taken = k + 1; stop = Slot; receiver = q }
+      pub hands : b ≡ true → all ≡ record { taken = k + 1; stop = at_slot; receiver = q }
       unfolding fed_one ahead
-      at_slot t = one ∙ rw t
+      hands t = one ∙ rw t
 
-      pub at_next : b ≡ false → all ≡ ahead (k + 1) (feed_of q xs (c +ℤ pos 1))
+      pub goes_on : b ≡ false → all ≡ ahead (k + 1) (feed_of q xs (c +ℤ pos 1))
       unfolding fed_one ahead
-      at_next t = one ∙ rw t (ap (λ (n : ℕ). record { taken = n; stop = (feed_of q xs (c +ℤ pos 1)).stop; receiver = (feed_of q xs (c +ℤ pos 1)).receiver }) (counts (feed_of q xs (c +ℤ pos 1)).taken))
+      goes_on t = one ∙ rw t (ap (λ (n : ℕ). record { taken = n; stop = (feed_of q xs (c +ℤ pos 1)).stop; receiver = (feed_of q xs (c +ℤ pos 1)).receiver }) (counts (feed_of q xs (c +ℤ pos 1)).taken))
         where
           counts : (n : ℕ) → k + suc n ≡ k + 1 + n
           counts n = omega arith

@@ -1,8 +1,8 @@
 -- The tests and counts of a sample, over plain numbers. Assumes nothing.
-use mathlib.Core.Path.{◌≡◌, refl, sym}
+use mathlib.Core.Path.{◌≡◌, refl}
 use mathlib.Core.Bool.{Bool, true, false, cond, ◌||◌}
-use Prim.Native.Nat.{ℕ, zero, suc, ◌+◌, ◌-◌, ◌<◌, ◌≤◌, ◌^◌}
-use native.Mathlib.Nat.{min-eq_left, min-eq_right, min-le_left}
+use Prim.Native.Nat.{ℕ, zero, suc, ◌+◌, ◌-◌, ◌<◌, ◌≤◌, ◌^◌, min}
+use native.Mathlib.Nat.{min-le_left}
 use native.Mathlib.Omega.{arith}
 use lib.Dec.{lit≤}
 use lib.IntN.{ℤ, pos, negsuc, ◌+ℤ◌, ◌-ℤ◌}
@@ -19,21 +19,13 @@ use Rattle.slot_receiver.specs.Calls.{sample_refusal}
 use Rattle.slot_receiver.specs.Bounds.{Counter}
 use Rattle.slot_receiver.proofs.Signed.{plus_is, wider, within_pos, counter_37}
 
-few : (z : ℤ) → dn z ≤ up z → mag z < 1020 → mag z ≡ missing z
+pub missing_least : (c n : ℤ) → up n + dn c ≤ up c + dn n → min (mag (c -ℤ n)) 1020 ≡ missing (c -ℤ n)
 unfolding missing
-few (pos n) h k = sym (min-eq_left (omega arith))
-few (negsuc n) h k = absurd (omega arith)
-
-many : (z : ℤ) → dn z ≤ up z → 1020 ≤ mag z → 1020 ≡ missing z
-unfolding missing
-many (pos n) h k = sym (min-eq_right (omega arith))
-many (negsuc n) h k = absurd (omega arith)
-
-pub missing_few : (c n : ℤ) → up n + dn c ≤ up c + dn n → mag (c -ℤ n) < 1020 → mag (c -ℤ n) ≡ missing (c -ℤ n)
-missing_few c n h k = few (c -ℤ n) (omega (arith, less c n)) k
-
-pub missing_many : (c n : ℤ) → up n + dn c ≤ up c + dn n → 1020 ≤ mag (c -ℤ n) → 1020 ≡ missing (c -ℤ n)
-missing_many c n h k = many (c -ℤ n) (omega (arith, less c n)) k
+missing_least c n h = go (c -ℤ n) (omega (arith, less c n))
+  where
+    go : (z : ℤ) → dn z ≤ up z → min (mag z) 1020 ≡ missing z
+    go (pos k) l = refl
+    go (negsuc k) l = absurd (omega arith)
 
 -- ---- zeros for missing samples
 

@@ -59,9 +59,8 @@ impl State {
         let mut handed = false;
         for done in 0..count {
             let left = count - done;
-            if self.process_sample(re, im, abs, zero, counter.minus(left as i64)) {
-                handed = true;
-            }
+            let hands = self.process_sample(re, im, abs, zero, counter.minus(left as i64));
+            handed |= hands;
         }
         handed
     }
@@ -80,9 +79,9 @@ impl State {
         ensures state { receiver_of self.new re.new im.new abs.new ≡ accept (receiver_of self.old re.old im.old abs.old) input counter.0 }
     {
         let before = self.catch_up(re, im, abs, counter);
-        let with = self.process_sample(re, im, abs, input, counter);
+        let now = self.process_sample(re, im, abs, input, counter);
         self.next_input_sample_count = counter.plus(1);
-        before || with
+        before | now
     }
 
     // Takes one sample, and tells whether it or a zero before it handed a slot over; or refuses it and leaves state and past as they are.

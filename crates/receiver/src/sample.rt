@@ -74,9 +74,9 @@ impl State {
     {
         if self.keeps(input, sample_counter) {
             self.keep(re, im, abs, input, sample_counter.plus(1));
-        } else {
-            self.hear(re, im, abs, input, sample_counter)?;
+            return Ok(());
         }
+        self.hear(re, im, abs, input, sample_counter)?;
         Ok(())
     }
 }

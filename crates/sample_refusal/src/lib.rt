@@ -12,10 +12,12 @@ use dsp_types::{ComplexSample, Refusal, SampleCount};
 pub fn is_beyond(part: f32) -> bool
     ensures { result ≡ beyond part }
 {
-    !(-1024.0 <= part && part <= 1024.0)
+    // Both tests are made: a loop over parts has one branch for each.
+    !((-1024.0 <= part) & (part <= 1024.0))
 }
 
 // Why a sample is refused, where next is the counter after the last accepted one.
+#[tactic(auto, unfolding(slot_receiver::specs::Calls::sample_refusal))]
 pub fn sample_refusal(next: SampleCount, input: ComplexSample, counter: SampleCount) -> Result<(), Refusal>
     ensures { answer_number result ≡ sample_refusal next.0 input counter.0 }
 {

@@ -4,16 +4,15 @@ use mathlib.Core.Bool.{Bool, true, false, cond, ◌||◌}
 use mathlib.Core.List.{List}
 use Prim.Native.Nat.{ℕ}
 use native.Mathlib.Omega.{arith}
-use lib.Dec.{eqb}
 use lib.ListN.{length}
-use borrow.Author.Tests.{ne_eqb}
+use mathlib.Core.Logic.{◌⊎◌, inl, inr}
 use Rattle.dsp_types.specs.Refusals.{wrong_length}
 use Rattle.dsp_types.proofs.Laws.{right_length}
 use Rattle.slot_receiver.specs.declared.Mode.{Mode}
 use Rattle.slot_receiver.specs.declared.Mode.TheVariants.{Idle, DlUnsynchronized, Dl, Ul}
 use Rattle.slot_receiver.specs.Receiver.{Receiver, with_mode, with_clock}
 use Rattle.slot_receiver.specs.Calls.{take_refusal, follow_refusal, slot_when, following}
-use Rattle.slot_receiver.specs.View.{mode_of, mode_following}
+use Rattle.slot_receiver.specs.View.{mode_following}
 
 -- an answered take has slices of the right lengths
 pub right_lengths : (slot first second : List ℕ) (available : Bool) → take_refusal slot first second available ≡ 0
@@ -31,24 +30,13 @@ right_lengths slot first second available e =
 
 -- ---- an order to follow
 
-pub follow_refused : (n : ℕ) → (eqb n 1 || eqb n 2) ≡ true → 13 ≡ follow_refusal (mode_of n)
-unfolding mode_of follow_refusal
-follow_refused n h = go (eqb n 1) (eqb n 2) (eqb n 3) h
-  where
-    go : (a b c : Bool) → (a || b) ≡ true → 13 ≡ follow_refusal (cond a DlUnsynchronized (cond b Dl (cond c Ul Idle)))
-    go true b c e = refl
-    go false true c e = refl
-    go false false c e = absurd (let z : ◌≡◌ {A = ℕ} 0 1 = cc in omega arith)
+pub follow_refused : (m : Mode) → (m ≡ DlUnsynchronized) ⊎ (m ≡ Dl) → 13 ≡ follow_refusal m
+unfolding follow_refusal
+follow_refused m h = elim h [ inl e ↦ rw e | inr e ↦ rw e ]
 
-pub follow_accepted : (n : ℕ) → (eqb n 1 || eqb n 2) ≡ false → 0 ≡ follow_refusal (mode_of n)
-unfolding mode_of follow_refusal
-follow_accepted n h = go (eqb n 1) (eqb n 2) (eqb n 3) h
-  where
-    go : (a b c : Bool) → (a || b) ≡ false → 0 ≡ follow_refusal (cond a DlUnsynchronized (cond b Dl (cond c Ul Idle)))
-    go true b c e = absurd (let z : ◌≡◌ {A = ℕ} 0 1 = cc in omega arith)
-    go false true c e = absurd (let z : ◌≡◌ {A = ℕ} 0 1 = cc in omega arith)
-    go false false true e = refl
-    go false false false e = refl
+pub follow_accepted : (m : Mode) → (m ≡ Idle) ⊎ (m ≡ Ul) → follow_refusal m ≡ 0
+unfolding follow_refusal
+follow_accepted m h = elim h [ inl e ↦ rw e | inr e ↦ rw e ]
 
 module _ (r other : Receiver) where
   pub follows_search : (m : Mode) → m ≡ DlUnsynchronized → with_mode r Idle ≡ following m r other
@@ -61,19 +49,11 @@ module _ (r other : Receiver) where
   unfolding following
   follows_lock m n e p = rw (e, p)
 
-  pub follows_none : (n : ℕ) → (n ≡ 1 → ⊥) → (n ≡ 2 → ⊥) → r ≡ following (mode_of n) r other
-  unfolding mode_of following
-  follows_none n a b = rw (ne_eqb n 1 a, ne_eqb n 2 b) (go (eqb n 3))
-    where
-      go : (c : Bool) → r ≡ following (cond c Ul Idle) r other
-      go true = refl
-      go false = refl
+  pub follows_none : (m : Mode) → (m ≡ Idle) ⊎ (m ≡ Ul) → r ≡ following m r other
+  unfolding following
+  follows_none m h = elim h [ inl e ↦ rw e | inr e ↦ rw e ]
 
 -- the number that is stored
-pub mode_none : (n own : ℕ) → (n ≡ 1 → ⊥) → (n ≡ 2 → ⊥) → own ≡ mode_following (mode_of n) own
-unfolding mode_of mode_following
-mode_none n own a b = rw (ne_eqb n 1 a, ne_eqb n 2 b) (go (eqb n 3))
-  where
-    go : (c : Bool) → own ≡ mode_following (cond c Ul Idle) own
-    go true = refl
-    go false = refl
+pub mode_none : (m : Mode) (own : ℕ) → (m ≡ Idle) ⊎ (m ≡ Ul) → own ≡ mode_following m own
+unfolding mode_following
+mode_none m own h = elim h [ inl e ↦ rw e | inr e ↦ rw e ]

@@ -8,6 +8,7 @@ use dsp_types::{Refusal, TdmaTime};
 use slot_receiver::{Mode, SlotReceiver};
 
 // An idle receiver takes the other's last slot number too.
+#[tactic(auto, unfolding(slot_receiver::specs::Calls::slot_when))]
 fn slot_when(mode: Mode, other: TdmaTime, own: TdmaTime) -> TdmaTime
     ensures { result.0 ≡ slot_when mode other.0 own.0 }
 {

@@ -1,12 +1,27 @@
 // The slot handed over last is taken.
 ghost use Rattle.std.specs.Prelude.{◌≡◌, OnErr, [], ◌∷◌, ℤ};
+ghost use Rattle.dsp_types.specs.Answers.{answer_number};
 ghost use Rattle.listener.specs.Signal.{Signal};
-ghost use Rattle.slot_receiver.specs.Calls.{take_outcome, take_reply_of, in_numbers};
+ghost use Rattle.slot_receiver.specs.Calls.{take_refusal, take_outcome, take_reply_of, in_numbers};
 ghost use Rattle.slot_receiver.specs.View.{receiver_from};
 
 use dsp_types::{Refusal, TdmaTime};
 use rx_slot::{RxSlot, take_burst, valid_closing};
 use slot_receiver::SlotReceiver;
+
+// Why a take is refused.
+#[tactic(auto, unfolding(slot_receiver::specs::Calls::take_refusal, dsp_types::specs::Refusals::wrong_length))]
+fn take_refusal(slot: &[u8], subslot1: &[u8], subslot2: &[u8], waits: bool) -> Result<(), Refusal>
+    ensures { answer_number result ≡ take_refusal slot.now subslot1.now subslot2.now waits }
+{
+    if slot.len() != 510 || subslot1.len() != 254 || subslot2.len() != 254 {
+        return Err(Refusal::BadLength);
+    }
+    if !waits {
+        return Err(Refusal::NoSlot);
+    }
+    Ok(())
+}
 
 // Takes the slot that waits: its views fill 510, 254 and 254 lent bytes. Or refuses, and everything stays as it is.
 pub fn take_demodulated_slot(
@@ -20,12 +35,7 @@ pub fn take_demodulated_slot(
     ensures lent { (next : ℤ) (s : Signal) → slot.new ∷ subslot1.new ∷ subslot2.new ∷ [] ≡ (take_outcome (receiver_from slots.old next s) slot.old subslot1.old subslot2.old).lent }
     ensures refused { OnErr result (slots.new ≡ slots.old) }
 {
-    if slot.len() != 510 || subslot1.len() != 254 || subslot2.len() != 254 {
-        return Err(Refusal::BadLength);
-    }
-    if !slots.demodulated_slot_available {
-        return Err(Refusal::NoSlot);
-    }
+    take_refusal(slot, subslot1, subslot2, slots.demodulated_slot_available)?;
     slots.demodulated_slot_available = false;
     let last = slots.demodulated_slot;
     Ok(RxSlot {

@@ -1,5 +1,10 @@
 -- A call by its refusal: refused, all is as it was; else it comes to what its definition says. Assumes nothing.
-use mathlib.Core.Path.{◌≡◌, refl}
+use mathlib.Core.Path.{◌≡◌, refl, sym}
+use native.Mathlib.Omega.{arith}
+use Rattle.std.specs.Prelude.{Result, Ok, Err}
+use Rattle.dsp_types.specs.declared.refusals.Refusal.{Refusal}
+use Rattle.dsp_types.specs.declared.refusals.Refusal.TheVariants.{BadSample, BadCounter, BadLength, BadBit, BadTraining, BadSlot, BadKind, PastCounter, NoSlot, NeedMoreData, NotFollowing}
+use Rattle.dsp_types.specs.Answers.{number_of, answer_number}
 use mathlib.Core.List.{List, []}
 use Prim.Native.Nat.{ℕ, zero, suc}
 use lib.IntN.{ℤ}
@@ -22,6 +27,28 @@ unless_refused {n} r lent o e h = rw (← e) (go n h)
 pub unless_accepted : {k : ℕ} (r : Receiver) (lent : List (List ℕ)) (o : Outcome) → k ≡ 0 → unless k r lent o ≡ o
 unfolding unless
 unless_accepted r lent o e = rw e
+
+-- no refusal's number is 0
+pub not_accepted : (refusal : Refusal) → number_of refusal ≡ 0 → ⊥
+not_accepted BadSample e = omega (arith, e)
+not_accepted BadCounter e = omega (arith, e)
+not_accepted BadLength e = omega (arith, e)
+not_accepted BadBit e = omega (arith, e)
+not_accepted BadTraining e = omega (arith, e)
+not_accepted BadSlot e = omega (arith, e)
+not_accepted BadKind e = omega (arith, e)
+not_accepted PastCounter e = omega (arith, e)
+not_accepted NoSlot e = omega (arith, e)
+not_accepted NeedMoreData e = omega (arith, e)
+not_accepted NotFollowing e = omega (arith, e)
+
+-- by the answer that says whether it is refused
+module _ {A : Type 0} {k : ℕ} {answer : Result A Refusal} (r : Receiver) (lent : List (List ℕ)) (o : Outcome) (said : answer_number answer ≡ k) where
+  pub unless_err : (refusal : Refusal) → answer ≡ Err refusal → unless k r lent o ≡ kept (number_of refusal) r lent
+  unless_err refusal e = unless_refused r lent o (rw e at said) (not_accepted refusal)
+
+  pub unless_ok : {x : A} → answer ≡ Ok x → unless k r lent o ≡ o
+  unless_ok e = unless_accepted r lent o (sym (rw e at said))
 
 module _ (r : Receiver) (x : ComplexSample) (c : ℤ) where
   pub sample_refused : {n : ℕ} → n ≡ sample_refusal (valid_count r.next) x c → (n ≡ 0 → ⊥) → sample_outcome r x c ≡ kept n r []

@@ -1,6 +1,8 @@
 // A sample has arrived: the slots that its counter has passed are skipped, and a window closes if this is its time.
-ghost use Rattle.std.specs.Prelude.{◌≡◌, List, ℤ};
+ghost use Rattle.std.specs.Prelude.{◌≡◌, List, ℤ, pos, ◌-ℤ◌};
 ghost use Rattle.dsp_types.specs.declared.ComplexSample.{ComplexSample};
+ghost use Rattle.dsp_types.specs.Ints.{eq_z};
+ghost use Rattle.dsp_types.specs.Times.{fitted};
 ghost use Rattle.listener.specs.Signal.{Signal};
 ghost use Rattle.listener.specs.View.{signal_from};
 ghost use Rattle.slot_receiver.specs.Receiver.{valid_count, skipped, closes, close_if, arrive};
@@ -8,9 +10,9 @@ ghost use Rattle.slot_receiver.specs.Windows.{hands_over, window_if, window_at};
 ghost use Rattle.slot_receiver.specs.View.{clock_of, receiver_from};
 ghost use Rattle.slot_receiver.specs.Bounds.{Timed, Counter};
 
+use crate::SlotReceiver;
 use crate::clock::tdiff;
 use crate::valid::valid_count;
-use crate::{Mode, SlotReceiver};
 use dsp_types::SampleCount;
 
 impl SlotReceiver {
@@ -19,6 +21,13 @@ impl SlotReceiver {
         ensures { (next : ℤ) (s : Signal) → receiver_from self.new next s ≡ skipped (receiver_from self.old next s) counter.0 }
     {
         self.skip_slots(tdiff(counter, self.slot_ready_time));
+    }
+
+    // Whether its window closes at this counter.
+    fn closes(&self, counter: SampleCount) -> bool
+        ensures { result ≡ eq_z (fitted (counter.0 -ℤ pos 16)) self.now.slot_ready_time.0 }
+    {
+        counter.minus(16) == self.slot_ready_time
     }
 
     // Whether a slot was handed over: in Dl and in Ul a window hands one over.
@@ -34,12 +43,12 @@ impl SlotReceiver {
         ensures handed { (next : ℤ) (inputs : List ComplexSample) → let a = receiver_from self.old next (signal_from inputs re.now im.now abs.now index) in result ≡ hands_over (window_if (closes a counter.0) a counter.0) }
         ensures slots { (next : ℤ) (inputs : List ComplexSample) → let a = receiver_from self.old next (signal_from inputs re.now im.now abs.now index) in receiver_from self.new next (signal_from inputs re.now im.now abs.now index) ≡ close_if (closes a counter.0) a counter.0 }
     {
-        if counter.minus(16) == self.slot_ready_time {
-            let mode = self.mode();
-            self.close_window(re, im, abs, index, counter);
-            return mode == Mode::Dl || mode == Mode::Ul;
+        if !self.closes(counter) {
+            return false;
         }
-        false
+        let handed = self.mode().hands_over();
+        self.close_window(re, im, abs, index, counter);
+        handed
     }
 
     // The newest sample of the past has this counter. A counter that no sample can have counts as 0. Whether a slot was handed over.

@@ -1,5 +1,6 @@
 // Slot timing: which slot is current, and when its window closes.
-ghost use Rattle.std.specs.Prelude.{◌≡◌, ◌-◌, ◌*◌, ◌^◌, ◌<◌, ℤ, pos, ◌+ℤ◌, ◌-ℤ◌};
+ghost use Rattle.std.specs.Prelude.{◌≡◌, ◌-◌, ◌*◌, ◌^◌, ◌<◌, ◌||◌, ℤ, pos, ◌+ℤ◌, ◌-ℤ◌};
+ghost use Rattle.std.specs.Int.Signed.{lt_z};
 ghost use Rattle.dsp_types.specs.Refusals.{counters};
 ghost use Rattle.dsp_types.specs.Times.{slots};
 ghost use Rattle.listener.specs.Signal.{Signal};
@@ -18,6 +19,7 @@ fn slots_long(slot: TdmaTime) -> i64
 }
 
 // Samples from the beginning of a slot to where it is ready to be demodulated.
+#[tactic(auto, unfolding(crate::specs::Receiver::slot_ready_from_begin))]
 fn slot_ready_from_begin(mode: Mode) -> i64
     ensures { result ≡ slot_ready_from_begin mode }
 {
@@ -45,11 +47,19 @@ pub(crate) fn tdiff(counter: SampleCount, ready: SampleCount) -> i64
     counter.minus(16).since(ready)
 }
 
+// Whether a number is below the first or above the last of a range.
+pub(crate) fn is_outside(n: i64, first: i64, last: i64) -> bool
+    ensures { result ≡ (lt_z n first || lt_z last n) }
+{
+    n < first || last < n
+}
+
 // Lost samples, or another reference time, can put the ready time into the past or far into the future.
-pub(crate) fn is_far(t: i64) -> bool
+#[tactic(auto, unfolding(crate::specs::Receiver::far))]
+fn is_far(t: i64) -> bool
     ensures { result ≡ far t }
 {
-    t < -2040 || 0 < t
+    is_outside(t, -2040, 0)
 }
 
 // How many slots the counter is past the ready time, rounded up.

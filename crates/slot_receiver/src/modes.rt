@@ -1,5 +1,7 @@
 // The numbers that a receiver's modes are stored as.
 ghost use Rattle.std.specs.Prelude.{◌≡◌};
+ghost use Rattle.slot_receiver.specs.Receiver.{Receiver};
+ghost use Rattle.slot_receiver.specs.Windows.{kind_of, is_slot};
 ghost use Rattle.slot_receiver.specs.View.{mode_of, mode_number};
 
 use crate::{Mode, SlotReceiver};
@@ -11,6 +13,16 @@ impl Mode {
         ensures { result ≡ mode_number self }
     {
         self as u8
+    }
+
+    // Whether its windows hand slots over.
+    pub(crate) fn hands_over(self) -> bool
+        ensures { (r : Receiver) → result ≡ is_slot (kind_of self r) }
+    {
+        match self {
+            Mode::Idle | Mode::DlUnsynchronized => false,
+            Mode::Dl | Mode::Ul => true,
+        }
     }
 }
 

@@ -4,7 +4,8 @@ ghost use Rattle.slot_receiver.specs.Quiet.{stands, quiet_samples};
 ghost use Rattle.slot_receiver.specs.View.{clock_of};
 
 use crate::SlotReceiver;
-use crate::valid::{FAR_READY, FAR_REFERENCE, valid_time};
+use crate::clock::is_outside;
+use crate::valid::{FAR_READY, FAR_REFERENCE, is_valid_time};
 use crate::window::LOST;
 use dsp_types::{LAST_COUNTER, SLOTS, SampleCount};
 
@@ -16,11 +17,12 @@ const LAST_QUIET: i64 = LAST_COUNTER - MOST_QUIET;
 
 impl SlotReceiver {
     // Whether the stored numbers are read as they are.
+    #[tactic(auto, unfolding(crate::specs::Quiet::stands))]
     fn stands(&self) -> bool
         ensures { result ≡ stands (clock_of self.now) self.now.slots_since_last_valid_burst }
     {
-        valid_time(self.reference_time, FAR_REFERENCE) == self.reference_time
-            && valid_time(self.slot_ready_time, FAR_READY) == self.slot_ready_time
+        is_valid_time(self.reference_time, FAR_REFERENCE)
+            && is_valid_time(self.slot_ready_time, FAR_READY)
             && self.current_slot.0 < SLOTS
             && self.slots_since_last_valid_burst <= LOST
     }
@@ -32,11 +34,11 @@ impl SlotReceiver {
         if !self.stands() {
             return 0;
         }
-        if counter < SampleCount(0) || SampleCount(LAST_QUIET) < counter {
+        if is_outside(counter.0, 0, LAST_QUIET) {
             return 0;
         }
         let left = self.slot_ready_time.plus(16).since(counter);
-        if left < 1 || MOST_QUIET < left {
+        if is_outside(left, 1, MOST_QUIET) {
             return 0;
         }
         dsp_types::unsigned(left) as usize

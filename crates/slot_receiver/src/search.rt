@@ -63,8 +63,9 @@ impl SlotReceiver {
             return;
         }
         // The step to the next slot makes the current one 0, and the next sample skips that: the burst found is slot 1.
+        let reference = found_time(self.slot_ready_time, found.pos);
         self.empty(TdmaTime::from_int(FIRST_SLOT));
-        self.reference_time = found_time(self.slot_ready_time, found.pos);
+        self.reference_time = reference;
         self.averaged_timing_error = averaged(0.0, window.timing);
         self.slots_since_last_valid_burst = 0;
         self.set_slot(TdmaTime::from_int(SLOT_AT_FIND));

@@ -1,10 +1,12 @@
 // A stored number that no call could have left counts as a valid one.
 ghost use Rattle.std.specs.Prelude.{◌≡◌, ℤ};
+ghost use Rattle.dsp_types.specs.Ints.{eq_z};
 ghost use Rattle.listener.specs.Signal.{Signal};
 ghost use Rattle.slot_receiver.specs.Receiver.{valid_time, valid_count, valid};
 ghost use Rattle.slot_receiver.specs.View.{receiver_from};
 
 use crate::SlotReceiver;
+use crate::clock::is_outside;
 use crate::window::LOST;
 use dsp_types::{LAST_COUNTER, SampleCount, TdmaTime};
 
@@ -26,11 +28,19 @@ pub(crate) fn valid_time(t: SampleCount, most: u64) -> SampleCount
     }
 }
 
+// Whether a stored time is read as it is.
+pub(crate) fn is_valid_time(t: SampleCount, most: u64) -> bool
+    ensures { result ≡ eq_z (valid_time most t.0) t.0 }
+{
+    valid_time(t, most) == t
+}
+
 // A counter below 0 or above the last that may be expected counts as 0.
+#[tactic(auto, unfolding(crate::specs::Receiver::valid_count))]
 pub fn valid_count(count: SampleCount) -> SampleCount
     ensures { result.0 ≡ valid_count count.0 }
 {
-    if count < SampleCount(0) || SampleCount(LAST_NEXT) < count {
+    if is_outside(count.0, 0, LAST_NEXT) {
         SampleCount(0)
     } else {
         count
@@ -45,6 +55,6 @@ impl SlotReceiver {
         self.reference_time = valid_time(self.reference_time, FAR_REFERENCE);
         self.slot_ready_time = valid_time(self.slot_ready_time, FAR_READY);
         self.current_slot = TdmaTime(self.current_slot.to_int());
-        self.slots_since_last_valid_burst = self.slots_since_last_valid_burst.min(LOST);
+        self.slots_since_last_valid_burst = LOST.min(self.slots_since_last_valid_burst);
     }
 }

@@ -1,7 +1,6 @@
 -- Each byte written is the bit that is there, and zeros stand behind them.
-use Rattle.std.proofs.Common.{◌≡◌, ◌∙◌, ℕ, map, length, length-drop, min, ◌-◌, ◌<◌, replicate, take, drop, arith, add-one}
+use Rattle.std.proofs.Common.{◌≡◌, ◌∙◌, map, length, length-drop, min, ◌-◌, ◌<◌, take, drop, arith, add-one}
 use Rattle.std.proofs.lemmas.List.{get_or-take, length-take, length-take-le, length-map}
-use Rattle.rx_slot.specs.Views.{padded}
 use Rattle.rx_slot.proofs.Laws.{fill_none, fill_step, bit, bit_at, filled_up}
 use Rattle.rx_slot.proofs.take.fill.Goals as goal
 
