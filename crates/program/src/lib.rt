@@ -6,20 +6,35 @@ mod words;
 
 pub use source::Source;
 use std::env::FillError;
-use std::{fs, io};
+use std::fmt::InlineText;
+use std::{fmt, fs, io};
 use streams::Host;
 use text::Text;
-pub use words::{Kind, Word, Words, count, is_word};
+pub use words::{Kind, Words, count, is_word};
+
+// What is wrong with words.
+#[derive(Clone, Copy, Debug, PartialEq, Eq)]
+pub enum Wrong {
+    UnknownOption,
+    TwoNames,
+}
+
+impl fmt::Display for Wrong {
+    fn fmt<W: fmt::Write>(&self, f: &mut fmt::Formatter<W>) -> fmt::Result {
+        f.write_str(match self {
+            Wrong::UnknownOption => "unknown option",
+            Wrong::TwoNames => "more than one file name",
+        })
+    }
+}
 
 // What the words of a program ask for that has no options of its own and reads one file.
 #[derive(Clone, Copy)]
 enum Asked {
     Help,
     Version,
-    UnknownOption,
-    TwoNames,
-    // The file that an argument names; standard input where that is 0, the program's own name.
-    Read(usize),
+    // The file that an argument names, or standard input.
+    Read(Option<usize>),
 }
 
 // The system's numbers of its errors: there is no such file, its name is too long, its name is no text.
@@ -36,15 +51,15 @@ pub fn fail<H: Host>(rt: &H, program: &[u8], what: &[u8], error: io::Error) {
     streams::fail(rt, what, error);
 }
 
-// Says on standard error what is wrong with the command line.
-pub fn refuse<H: Host>(rt: &H, program: &[u8], what: &[u8]) {
-    let wrong = Text::new().append(program).append(b": ").append(what);
+// Says on standard error what is wrong with the command line, in at most 256 bytes.
+pub fn refuse<H: Host, D: fmt::Display + Drop>(rt: &H, program: &[u8], what: D) {
+    let what = InlineText::<256>::of(what);
+    let wrong = Text::new()
+        .append(program)
+        .append(b": ")
+        .append(what.as_str().as_bytes());
     let line = wrong.append(b", see ").append(program).append(b" --help\n");
     line.tell(rt);
-}
-
-pub fn refuse_option<H: Host>(rt: &H, program: &[u8]) {
-    refuse(rt, program, b"unknown option");
 }
 
 pub fn help<H: Host>(rt: &H, program: &[u8], text: &[u8]) {
@@ -61,81 +76,74 @@ pub fn version<H: Host>(rt: &H, program: &[u8]) {
     }
 }
 
-// Tells why the name of a file is none.
-fn fail_name<H: Host, F>(rt: &H, program: &[u8], code: i32) -> Option<Source<F>> {
-    fail(
-        rt,
-        program,
-        b"the file name",
-        io::Error::from_raw_os_error(code),
-    );
+// The path that an argument is, as it stands in the buffer.
+fn path_at<'a, H: Host>(rt: &H, at: usize, buf: &'a mut [u8]) -> io::Result<&'a str> {
+    let code = match rt.arg(at, buf) {
+        Ok(len) => match str::from_utf8(&buf[..len]) {
+            Ok(path) => return Ok(path),
+            Err(_) => NO_TEXT,
+        },
+        Err(FillError::TooLong) => TOO_LONG,
+        Err(FillError::NotPresent) => NO_FILE,
+    };
+    Err(io::Error::from_raw_os_error(code))
+}
+
+// The file of that path, `-` for standard input.
+fn open_path<H: Host>(rt: &H, path: &str) -> io::Result<Source<H::File>> {
+    if path == "-" {
+        return Ok(Source::Input(rt.input()));
+    }
+    Ok(Source::File(fs::open(rt, path)?))
+}
+
+// Opens the file that an argument names, or tells why not. Where none does, it is standard input.
+pub fn open<H: Host>(rt: &H, program: &[u8], at: Option<usize>) -> Option<Source<H::File>> {
+    let Some(at) = at else {
+        return Some(Source::Input(rt.input()));
+    };
+    let mut buf = [0u8; 4096];
+    match path_at(rt, at, &mut buf) {
+        Ok(path) => match open_path(rt, path) {
+            Ok(source) => return Some(source),
+            Err(error) => fail(rt, program, path.as_bytes(), error),
+        },
+        Err(error) => fail(rt, program, b"the file name", error),
+    }
     None
 }
 
-// Opens the file of that path, `-` for standard input, or tells why not.
-fn open_path<H: Host>(rt: &H, program: &[u8], path: &[u8]) -> Option<Source<H::File>> {
-    if is_word(path, b"-") {
-        return Some(Source::Input(rt.input()));
-    }
-    let Ok(text) = str::from_utf8(path) else {
-        return fail_name(rt, program, NO_TEXT);
-    };
-    match fs::open(rt, text) {
-        Ok(file) => Some(Source::File(file)),
-        Err(error) => {
-            fail(rt, program, path, error);
-            None
-        }
-    }
-}
-
-// The same of the file that an argument names, and standard input for argument 0.
-pub fn open<H: Host>(rt: &H, program: &[u8], at: usize) -> Option<Source<H::File>> {
-    if at == 0 {
-        return Some(Source::Input(rt.input()));
-    }
-    let mut path = [0u8; 4096];
-    match rt.arg(at, &mut path) {
-        Ok(len) => open_path(rt, program, &path[..len]),
-        Err(FillError::TooLong) => fail_name(rt, program, TOO_LONG),
-        Err(FillError::NotPresent) => fail_name(rt, program, NO_FILE),
-    }
-}
-
 // The first word that asks for something decides; names are kept.
-fn read_words<H: Host>(rt: &H) -> Asked {
+fn read_words<H: Host>(rt: &H) -> Result<Asked, Wrong> {
     let mut words = Words::new();
-    let mut name: usize = 0;
+    let mut name = None;
     for at in 1..count(rt) {
         let mut buf = [0u8; 4096];
-        let word = words.next(rt, &mut buf);
-        words = word.words;
-        let kind = word.kind;
+        let (kind, _) = words.next(rt, &mut buf);
         match kind {
             Kind::Ends => {}
-            Kind::Help => return Asked::Help,
-            Kind::Version => return Asked::Version,
-            Kind::Option => return Asked::UnknownOption,
+            Kind::Help => return Ok(Asked::Help),
+            Kind::Version => return Ok(Asked::Version),
+            Kind::Option => return Err(Wrong::UnknownOption),
             Kind::Name => {
-                if name > 0 {
-                    return Asked::TwoNames;
+                if name.is_some() {
+                    return Err(Wrong::TwoNames);
                 }
-                name = at;
+                name = Some(at);
             }
         }
     }
-    Asked::Read(name)
+    Ok(Asked::Read(name))
 }
 
 // Answers the command line of a program that reads standard input or one file, and has no options of its own: gives what
 // is to be read, or tells what was asked for or is wrong.
 pub fn input<H: Host>(rt: &H, program: &[u8], text: &[u8]) -> Option<Source<H::File>> {
     match read_words(rt) {
-        Asked::Read(at) => return open(rt, program, at),
-        Asked::Help => help(rt, program, text),
-        Asked::Version => version(rt, program),
-        Asked::UnknownOption => refuse_option(rt, program),
-        Asked::TwoNames => refuse(rt, program, b"more than one file name"),
+        Ok(Asked::Read(at)) => return open(rt, program, at),
+        Ok(Asked::Help) => help(rt, program, text),
+        Ok(Asked::Version) => version(rt, program),
+        Err(wrong) => refuse(rt, program, wrong),
     }
     None
 }

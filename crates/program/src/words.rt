@@ -1,12 +1,11 @@
 // The words of the command line, read one behind the other.
-ghost use Rattle.std.specs.Prelude.{◌≡◌, ◌+◌, ◌%◌, ◌^◌, false, ◌||◌, take};
-ghost use Rattle.io.specs.Counts.{IsPrefixLen};
+ghost use Rattle.std.specs.Prelude.{◌≡◌, ◌+◌, ◌%◌, ◌^◌, ◌≤◌, false, ◌||◌, length};
 ghost use Rattle.program.specs.Words.{same_word, is_option, kind_of_word, kind_of_word_at};
 ghost use Rattle.text.specs.Text.{ascii};
 
 use std::env::{Env, FillError};
 
-#[derive(Clone, Copy)]
+#[derive(Clone, Copy, Debug, PartialEq, Eq)]
 pub enum Kind {
     // `--`: no word behind it is an option.
     Ends,
@@ -24,22 +23,11 @@ pub struct Words {
     pub is_ended: bool,
 }
 
-// A word, the first bytes of the buffer that it was read into, and the words behind it. One that the buffer has no room
-// for is read as an empty name.
-#[derive(Clone, Copy)]
-pub struct Word {
-    pub kind: Kind,
-    pub len: usize,
-    pub words: Words,
-}
-
+#[tactic(auto, using(crate::proofs::Tests::long, crate::proofs::Tests::short))]
 fn is_option(word: &[u8]) -> bool
     ensures { result ≡ is_option word.now }
 {
-    if word.len() < 2 {
-        return false;
-    }
-    word[0] == b'-'
+    1 < word.len() && word.starts_with(b"-")
 }
 
 // How many arguments there are, with the program's own name.
@@ -52,17 +40,16 @@ pub fn count<E: Env>(rt: &E) -> usize {
     usize::MAX
 }
 
-// The bytes of an argument at the start of the buffer, none where it is missing or there is no room for it.
-fn arg<E: Env>(rt: &E, at: usize, buf: &mut [u8]) -> usize
-    ensures { IsPrefixLen result buf.new }
+// An argument, at the start of the buffer: an empty one where it is missing or there is no room for it.
+fn arg<'a, E: Env>(rt: &E, at: usize, buf: &'a mut [u8]) -> &'a [u8]
+    ensures { length result.now ≤ length buf.old }
 {
-    match rt.arg(at, buf) {
-        Ok(len) => len,
-        Err(_) => 0,
-    }
+    let len = rt.arg(at, buf).unwrap_or(0);
+    &buf[..len]
 }
 
 // Whether a word is that one, as where a program looks for an option of its own.
+#[tactic(auto, using(crate::proofs::Tests::same_is))]
 pub fn is_word(word: &[u8], that: &[u8]) -> bool
     ensures { result ≡ same_word word.now that.now }
 {
@@ -70,19 +57,17 @@ pub fn is_word(word: &[u8], that: &[u8]) -> bool
 }
 
 // What a word is where options may stand.
+#[tactic(auto, unfolding(crate::specs::Words::kind_of_word, text::specs::Text::ascii))]
 fn kind_of(word: &[u8]) -> Kind
     ensures { result ≡ kind_of_word word.now }
 {
     if is_word(word, b"--") {
-        return Kind::Ends;
-    }
-    if is_word(word, b"--help") {
-        return Kind::Help;
-    }
-    if is_word(word, b"--version") {
-        return Kind::Version;
-    }
-    if is_option(word) {
+        Kind::Ends
+    } else if is_word(word, b"--help") {
+        Kind::Help
+    } else if is_word(word, b"--version") {
+        Kind::Version
+    } else if is_option(word) {
         Kind::Option
     } else {
         Kind::Name
@@ -90,6 +75,7 @@ fn kind_of(word: &[u8]) -> Kind
 }
 
 // The same behind `--`, where each word is a name.
+#[tactic(auto, unfolding(crate::specs::Words::kind_of_word_at))]
 fn kind_at(is_ended: bool, word: &[u8]) -> Kind
     ensures { result ≡ kind_of_word_at is_ended word.now }
 {
@@ -107,37 +93,28 @@ impl Words {
         }
     }
 
-    // The next word. One that is missing is read as an empty name.
-    pub fn next<E: Env>(self, rt: &E, buf: &mut [u8]) -> Word
-        ensures prefix_len { IsPrefixLen result.len buf.new }
-        ensures kind_value { result.kind ≡ kind_of_word_at self.is_ended (take result.len buf.new) }
-        ensures at_value { result.words.at ≡ (self.at + 1) % 2 ^ 64 }
-        ensures is_ended_value { result.words.is_ended ≡ (self.is_ended || same_word (take result.len buf.new) (ascii "--")) }
+    // The next word, as it stands at the start of the buffer, as where an option takes a value. One that is missing, or that
+    // the buffer has no room for, is read as an empty one.
+    pub fn value<'a, E: Env>(&mut self, rt: &E, buf: &'a mut [u8]) -> &'a [u8]
+        ensures len_bound { length result.now ≤ length buf.old }
+        ensures at_value { (self.new.at ≡ (self.old.at + 1) % 2 ^ 64) × (self.new.is_ended ≡ self.old.is_ended) }
     {
-        let len = arg(rt, self.at, buf);
-        let kind = kind_at(self.is_ended, &buf[..len]);
-        let words = Words {
-            at: self.at.wrapping_add(1),
-            is_ended: self.is_ended | is_word(&buf[..len], b"--"),
-        };
-        Word { kind, len, words }
+        let word = arg(rt, self.at, buf);
+        self.at = self.at.wrapping_add(1);
+        word
     }
 
-    // The next word as it stands, as where an option takes a value. One that is missing is read as an empty one.
-    pub fn value<E: Env>(self, rt: &E, buf: &mut [u8]) -> Word
-        ensures prefix_len { IsPrefixLen result.len buf.new }
-        ensures kind_value { result.kind ≡ Kind.Name }
-        ensures at_value { (result.words.at ≡ (self.at + 1) % 2 ^ 64) × (result.words.is_ended ≡ self.is_ended) }
+    // The same, and what it is.
+    #[tactic(auto, unfolding(text::specs::Text::ascii))]
+    pub fn next<'a, E: Env>(&mut self, rt: &E, buf: &'a mut [u8]) -> (Kind, &'a [u8])
+        ensures len_bound { length result.1.now ≤ length buf.old }
+        ensures kind_value { result.0 ≡ kind_of_word_at self.old.is_ended result.1.now }
+        ensures at_value { self.new.at ≡ (self.old.at + 1) % 2 ^ 64 }
+        ensures is_ended_value { self.new.is_ended ≡ (self.old.is_ended || same_word result.1.now (ascii "--")) }
     {
-        let len = arg(rt, self.at, buf);
-        let words = Words {
-            at: self.at.wrapping_add(1),
-            is_ended: self.is_ended,
-        };
-        Word {
-            kind: Kind::Name,
-            len,
-            words,
-        }
+        let word = self.value(rt, buf);
+        let kind = kind_at(self.is_ended, word);
+        self.is_ended |= is_word(word, b"--");
+        (kind, word)
     }
 }

@@ -21,7 +21,7 @@ use Rattle.slot_receiver.specs.Receiver.{Receiver}
 use Rattle.slot_receiver.specs.View.{mode_of}
 use Rattle.receiver.specs.Feed.{interleaved, feed_of}
 use Rattle.slot_text.specs.declared.Form.{Form}
-use Rattle.slot_lines.specs.declared.listen.Style.{Style}
+use Rattle.slot_text.specs.declared.Style.{Style}
 use Rattle.slot_lines.specs.Blocks.{line_of, hear_one, Step, stretch_of, stretch_by, mended_by, step_of}
 use Rattle.slot_lines.specs.Links.{is_uplink, down_style, up_style, follow_if, begins_if, still_begins, shown_of, UpPrinted, up_printed, both_printed, Both, rest_printed, BothStep, lead_step, catch_up_step, step_by, both_step, both_of, both_made}
 use Rattle.slot_lines.specs.declared.links.Links.{Links}

@@ -26,7 +26,7 @@ use Rattle.slot_receiver.specs.Receiver.{Receiver, accept, valid_count}
 use Rattle.slot_receiver.specs.Windows.{hands_over, accept_windows}
 use Rattle.slot_receiver.specs.Calls.{refused, Outcome, unless, sample_refusal, sampled, sample_outcome}
 use Rattle.receiver.specs.Feed.{interleaved, Stopped, at_end, at_slot, at_refusal, Block, fed_one, fed_by, feed_of}
-use Rattle.slot_lines.specs.declared.listen.Style.{Style}
+use Rattle.slot_text.specs.declared.Style.{Style}
 use Rattle.slot_lines.specs.Blocks.{refused_with, take_next, taken_if, taken_line, mended, Printed, printed_one, hear_one, before, printed, Step, stretch_by, stretch_of, mended_by, step_of, from_step}
 
 -- ---- whether a sample was refused

@@ -24,7 +24,7 @@ use Rattle.slot_receiver.specs.Receiver.{Receiver}
 use Rattle.slot_receiver.specs.View.{receiver_from}
 use Rattle.receiver.specs.View.{receiver_of}
 use Rattle.slot_receiver.specs.Calls.{Reply, refused, done, took, unless, taken, take_outcome, take_reply_of, in_numbers}
-use Rattle.slot_lines.specs.declared.listen.Style.{Style}
+use Rattle.slot_text.specs.declared.Style.{Style}
 use Rattle.slot_lines.specs.Blocks.{take_next, taken_line}
 
 -- ---- a burst's bits are few

@@ -13,7 +13,7 @@ use Rattle.receiver.specs.Feed.{Stopped, at_end, at_slot, at_refusal, feed_of}
 use Rattle.text.specs.declared.Text.{Text}
 use Rattle.text.specs.Text.{text_of}
 use Rattle.slot_text.specs.Lines.{slot_line}
-use Rattle.slot_lines.specs.declared.listen.Style.{Style}
+use Rattle.slot_text.specs.declared.Style.{Style}
 use Rattle.slot_lines.specs.declared.listen.Heard.{Heard}
 
 -- a take with bytes of the right lengths

@@ -10,7 +10,7 @@ use Rattle.slot_receiver.specs.Calls.{follow_outcome}
 use Rattle.receiver.specs.View.{receiver_of}
 use Rattle.slot_text.specs.declared.Form.{Form}
 use Rattle.slot_text.specs.declared.Link.TheVariants.{Down, Up}
-use Rattle.slot_lines.specs.declared.listen.Style.{Style}
+use Rattle.slot_text.specs.declared.Style.{Style}
 use Rattle.slot_lines.specs.declared.links.Links.{Links}
 use Rattle.slot_lines.specs.declared.links.LinksHeard.{LinksHeard}
 use Rattle.slot_lines.specs.Blocks.{hear_one, step_of, refused_with, line_of}

@@ -5,4 +5,5 @@ mod links;
 mod listen;
 
 pub use links::{Links, LinksHeard, first_samples, hear_links};
-pub use listen::{Heard, Style, hear};
+pub use listen::{Heard, hear};
+pub use slot_text::Style;

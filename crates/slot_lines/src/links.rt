@@ -5,11 +5,11 @@ ghost use Rattle.receiver.specs.View.{receiver_of};
 ghost use Rattle.slot_lines.specs.Blocks.{line_of};
 ghost use Rattle.slot_lines.specs.Links.{is_uplink, is_past, follow_if, begins_if, shown_of, rest_printed, lead_step, catch_up_step, both_step, both_of, both_made};
 
-use crate::listen::{Style, hear};
+use crate::listen::hear;
 use dsp_types::{Refusal, SampleCount};
 use receiver::State;
 use slot_receiver::Mode;
-use slot_text::Link;
+use slot_text::{Link, Style};
 use text::Text;
 
 #[derive(Clone, Copy)]

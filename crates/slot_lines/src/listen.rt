@@ -7,16 +7,8 @@ ghost use Rattle.slot_lines.specs.Blocks.{take_next, taken_line, printed, stretc
 
 use dsp_types::{Refusal, SampleCount};
 use receiver::{State, Stop};
-use slot_text::{Form, Link, slot_line};
+use slot_text::{Style, slot_line};
 use text::Text;
-
-// How slots are printed.
-#[derive(Clone, Copy)]
-pub struct Style {
-    pub form: Form,
-    pub has_bits: bool,
-    pub link: Link,
-}
 
 // How many samples are done with, the refusal of the last of them, and the line of the slot that it handed over.
 #[derive(Clone, Copy)]
@@ -36,9 +28,7 @@ fn take_line(state: &mut State, style: Style) -> Text
     let mut subslot2 = [0u8; 254];
     match state.take_demodulated_slot(&mut slot, &mut subslot1, &mut subslot2) {
         Ok(handed) => slot_line(
-            style.form,
-            style.has_bits,
-            style.link,
+            style,
             handed,
             text::front(&slot, handed.full.burst_len),
             text::front(&subslot1, handed.subslot1.burst_len),

@@ -1,47 +1,81 @@
 // Named values, one behind the other.
 ghost use Rattle.std.specs.Prelude.{◌≡◌, [], ◌∷◌, ◌++◌};
-ghost use Rattle.text.specs.Text.{text_of, cut};
-ghost use Rattle.slot_text.specs.Fields.{number_field, by_form, quote, equals, separator, quoted, field_text, fields_text};
+ghost use Rattle.text.specs.Text.{text_of, cut, ascii, type_name};
+ghost use Rattle.slot_text.specs.Fields.{number_field, word_field, by_form, quote, equals, separator, quoted, field_text, fields_text};
 
 use crate::Form;
 use text::Text;
 
-// With the one or the other behind it.
-#[tactic(auto, unfolding(crate::specs::Fields::by_form))]
-pub(crate) fn by_form(text: Text, form: Form, plain: &[u8], json: &[u8]) -> Text
-    ensures { text_of result ≡ cut (text_of text ++ by_form form plain.now json.now) }
-{
-    match form {
-        Form::Plain => text.append(plain),
-        Form::Json => text.append(json),
+impl Form {
+    // With the one or the other behind it.
+    #[tactic(auto, unfolding(crate::specs::Fields::by_form))]
+    pub(crate) fn by_form(self, text: Text, plain: &[u8], json: &[u8]) -> Text
+        ensures { text_of result ≡ cut (text_of text ++ by_form self plain.now json.now) }
+    {
+        match self {
+            Form::Plain => text.append(plain),
+            Form::Json => text.append(json),
+        }
     }
-}
 
-fn with_name(text: Text, form: Form, prefix: &[u8], name: &[u8]) -> Text
-    ensures { text_of result ≡ cut (text_of text ++ (quoted form (prefix.now ++ name.now) ++ equals form)) }
-{
-    let named = by_form(text, form, b"", b"\"").append(prefix).append(name);
-    by_form(named, form, b"=", b"\":")
-}
+    // With what stands around names and words.
+    #[tactic(auto, unfolding(text::specs::Text::ascii))]
+    pub(crate) fn quote(self, text: Text) -> Text
+        ensures { text_of result ≡ cut (text_of text ++ quote self) }
+    {
+        self.by_form(text, b"", b"\"")
+    }
 
-// With the field of a number.
-pub(crate) fn with_number(text: Text, form: Form, prefix: &[u8], name: &[u8], n: u64) -> Text
-    ensures { text_of result ≡ cut (text_of text ++ field_text form (number_field (prefix.now ++ name.now) n)) }
-{
-    with_name(text, form, prefix, name).decimal(n)
-}
+    // With what stands between two fields.
+    #[tactic(auto, unfolding(text::specs::Text::ascii))]
+    fn separate(self, text: Text) -> Text
+        ensures { text_of result ≡ cut (text_of text ++ separator self) }
+    {
+        self.by_form(text, b" ", b",")
+    }
 
-// With the next field, that of a number.
-pub(crate) fn with_next_number(text: Text, form: Form, prefix: &[u8], name: &[u8], n: u64) -> Text
-    ensures { text_of result ≡ cut (text_of text ++ fields_text form (number_field (prefix.now ++ name.now) n ∷ [])) }
-{
-    with_number(by_form(text, form, b" ", b","), form, prefix, name, n)
-}
+    fn with_name(self, text: Text, prefix: &[u8], name: &[u8]) -> Text
+        ensures { text_of result ≡ cut (text_of text ++ (quoted self (prefix.now ++ name.now) ++ equals self)) }
+    {
+        let named = self.quote(text).append(prefix).append(name);
+        self.by_form(named, b"=", b"\":")
+    }
 
-// With the next field up to its word; the word follows, and the quotation mark behind it.
-pub(crate) fn up_to_word(text: Text, form: Form, prefix: &[u8], name: &[u8]) -> Text
-    ensures { text_of result ≡ cut (text_of text ++ (separator form ++ (quoted form (prefix.now ++ name.now) ++ equals form ++ quote form))) }
-{
-    let named = with_name(by_form(text, form, b" ", b","), form, prefix, name);
-    by_form(named, form, b"", b"\"")
+    // With the field of a number.
+    pub(crate) fn with_number(self, text: Text, prefix: &[u8], name: &[u8], n: u64) -> Text
+        ensures { text_of result ≡ cut (text_of text ++ field_text self (number_field (prefix.now ++ name.now) n)) }
+    {
+        self.with_name(text, prefix, name).decimal(n)
+    }
+
+    // With the next field, that of a number.
+    pub(crate) fn with_next_number(self, text: Text, prefix: &[u8], name: &[u8], n: u64) -> Text
+        ensures { text_of result ≡ cut (text_of text ++ fields_text self (number_field (prefix.now ++ name.now) n ∷ [])) }
+    {
+        self.with_number(self.separate(text), prefix, name, n)
+    }
+
+    // With the next field up to its word; the word follows, and the quotation mark behind it.
+    pub(crate) fn up_to_word(self, text: Text, prefix: &[u8], name: &[u8]) -> Text
+        ensures { text_of result ≡ cut (text_of text ++ (separator self ++ (quoted self (prefix.now ++ name.now) ++ equals self ++ quote self))) }
+    {
+        self.quote(self.with_name(self.separate(text), prefix, name))
+    }
+
+    // With the next field, whose value is a word.
+    pub(crate) fn with_word(self, text: Text, name: &[u8], word: &[u8]) -> Text
+        ensures { text_of result ≡ cut (text_of text ++ fields_text self (word_field name.now word.now ∷ [])) }
+    {
+        self.quote(self.up_to_word(text, b"", name).append(word))
+    }
+
+    // With the next field, a burst type's name.
+    pub(crate) fn with_type(self, text: Text, prefix: &[u8], train_type: u8) -> Text
+        ensures { text_of result ≡ cut (text_of text ++ fields_text self (word_field (prefix.now ++ ascii "type") (type_name train_type) ∷ [])) }
+    {
+        self.quote(
+            self.up_to_word(text, prefix, b"type")
+                .type_name(train_type as u32),
+        )
+    }
 }

@@ -20,3 +20,11 @@ pub enum Link {
     Down,
     Up,
 }
+
+// How slots are printed.
+#[derive(Clone, Copy)]
+pub struct Style {
+    pub form: Form,
+    pub has_bits: bool,
+    pub link: Link,
+}

@@ -1,127 +1,97 @@
 // The line of a slot.
-ghost use Rattle.std.specs.Prelude.{◌≡◌, [], ◌∷◌, ◌++◌};
-ghost use Rattle.text.specs.Text.{text_of, cut, ascii, type_name};
-ghost use Rattle.slot_text.specs.Fields.{word_field, fields_text};
+ghost use Rattle.std.specs.Prelude.{◌≡◌, [], ◌++◌};
+ghost use Rattle.text.specs.Text.{text_of, cut};
+ghost use Rattle.slot_text.specs.Fields.{fields_text};
 ghost use Rattle.slot_text.specs.Lines.{link_fields, bits_fields, burst_fields, half_fields, slot_line, burst_read, slot_read};
 
-use crate::fields::{by_form, up_to_word, with_next_number, with_number};
-use crate::{Form, Link};
+use crate::{Link, Style};
 use rx_slot::{RxBurst, RxSlot};
 use text::Text;
 
-// With the next field, whose value is a word.
-fn with_word(text: Text, form: Form, name: &[u8], word: &[u8]) -> Text
-    ensures { text_of result ≡ cut (text_of text ++ fields_text form (word_field name.now word.now ∷ [])) }
-{
-    by_form(
-        up_to_word(text, form, b"", name).append(word),
-        form,
-        b"",
-        b"\"",
-    )
+// A burst and its bits.
+#[derive(Clone, Copy)]
+struct Burst<'a> {
+    told: RxBurst,
+    bits: &'a [u8],
 }
 
-fn with_link(text: Text, form: Form, link: Link) -> Text
-    ensures { text_of result ≡ cut (text_of text ++ fields_text form (link_fields link)) }
-{
-    match link {
-        Link::Alone => text.append(b""),
-        Link::Down => with_word(text, form, b"link", b"down"),
-        Link::Up => with_word(text, form, b"link", b"up"),
+impl Style {
+    #[tactic(auto, unfolding(crate::specs::Lines::link_fields, crate::specs::Fields::fields_text, text::specs::Text::ascii))]
+    fn with_link(self, text: Text) -> Text
+        ensures { text_of result ≡ cut (text_of text ++ fields_text self.form (link_fields self.link)) }
+    {
+        match self.link {
+            Link::Alone => text.append(b""),
+            Link::Down => self.form.with_word(text, b"link", b"down"),
+            Link::Up => self.form.with_word(text, b"link", b"up"),
+        }
     }
-}
 
-fn with_bits(text: Text, form: Form, has_bits: bool, prefix: &[u8], bits: &[u8]) -> Text
-    ensures { text_of result ≡ cut (text_of text ++ fields_text form (bits_fields has_bits prefix.now bits.now)) }
-{
-    if bits.len() == 0 {
-        return text.append(b"");
+    fn with_bits(self, text: Text, prefix: &[u8], bits: &[u8]) -> Text
+        ensures { text_of result ≡ cut (text_of text ++ fields_text self.form (bits_fields self.has_bits prefix.now bits.now)) }
+    {
+        if bits.len() == 0 {
+            return text.append(b"");
+        }
+        if self.has_bits {
+            let worded = self.form.up_to_word(text, prefix, b"bits").bits(bits);
+            self.form.quote(worded)
+        } else {
+            text.append(b"")
+        }
     }
-    if has_bits {
-        by_form(
-            up_to_word(text, form, prefix, b"bits").bits(bits),
-            form,
-            b"",
-            b"\"",
-        )
-    } else {
-        text.append(b"")
+
+    // With a burst's type, wrong training bits and bits.
+    fn with_burst(self, text: Text, prefix: &[u8], burst: Burst) -> Text
+        ensures { text_of result ≡ cut (text_of text ++ fields_text self.form (burst_fields self.has_bits prefix.now (burst_read burst.entry.told burst.entry.bits.now))) }
+    {
+        let told = burst.told;
+        let typed = self.form.with_type(text, prefix, told.train_type);
+        let judged = self
+            .form
+            .with_next_number(typed, prefix, b"errors", told.train_errs as u64);
+        self.with_bits(judged, prefix, burst.bits)
     }
-}
 
-fn with_type(text: Text, form: Form, prefix: &[u8], train_type: u8) -> Text
-    ensures { text_of result ≡ cut (text_of text ++ fields_text form (word_field (prefix.now ++ ascii "type") (type_name train_type) ∷ [])) }
-{
-    by_form(
-        up_to_word(text, form, prefix, b"type").type_name(train_type as u32),
-        form,
-        b"",
-        b"\"",
-    )
-}
-
-// With a burst's type, wrong training bits and bits.
-fn with_burst(
-    text: Text,
-    form: Form,
-    has_bits: bool,
-    prefix: &[u8],
-    burst: RxBurst,
-    bits: &[u8],
-) -> Text
-    ensures { text_of result ≡ cut (text_of text ++ fields_text form (burst_fields has_bits prefix.now (burst_read burst bits.now))) }
-{
-    let typed = with_type(text, form, prefix, burst.train_type);
-    let judged = with_next_number(typed, form, prefix, b"errors", burst.train_errs as u64);
-    with_bits(judged, form, has_bits, prefix, bits)
-}
-
-// With the bursts of an uplink slot's halves.
-fn with_halves(
-    text: Text,
-    form: Form,
-    has_bits: bool,
-    link: Link,
-    slot: RxSlot,
-    bits1: &[u8],
-    bits2: &[u8],
-) -> Text
-    ensures { text_of result ≡ cut (text_of text ++ fields_text form (half_fields has_bits link (burst_read slot.subslot1 bits1.now) (burst_read slot.subslot2 bits2.now))) }
-{
-    match link {
-        Link::Alone => text.append(b""),
-        Link::Down => text.append(b""),
-        Link::Up => {
-            let first = with_burst(text, form, has_bits, b"half1_", slot.subslot1, bits1);
-            with_burst(first, form, has_bits, b"half2_", slot.subslot2, bits2)
+    // With the bursts of an uplink slot's halves.
+    fn with_halves(self, text: Text, first: Burst, second: Burst) -> Text
+        ensures { text_of result ≡ cut (text_of text ++ fields_text self.form (half_fields self.has_bits self.link (burst_read first.entry.told first.entry.bits.now) (burst_read second.entry.told second.entry.bits.now))) }
+    {
+        match self.link {
+            Link::Alone => text.append(b""),
+            Link::Down => text.append(b""),
+            Link::Up => {
+                let half = self.with_burst(text, b"half1_", first);
+                self.with_burst(half, b"half2_", second)
+            }
         }
     }
 }
 
 // A slot's number, closing counter and bursts, with the bits of each.
-pub fn slot_line(
-    form: Form,
-    has_bits: bool,
-    link: Link,
-    slot: RxSlot,
-    bits: &[u8],
-    bits1: &[u8],
-    bits2: &[u8],
-) -> Text
-    ensures { text_of result ≡ cut (slot_line form has_bits link (slot_read slot bits.now bits1.now bits2.now)) }
+pub fn slot_line(style: Style, slot: RxSlot, bits: &[u8], bits1: &[u8], bits2: &[u8]) -> Text
+    ensures { text_of result ≡ cut (slot_line style.form style.has_bits style.link (slot_read slot bits.now bits1.now bits2.now)) }
 {
-    let numbered = with_number(
-        by_form(Text::new(), form, b"", b"{"),
-        form,
-        b"",
-        b"slot",
-        slot.time.0 as u64,
-    );
+    let form = style.form;
+    let full = Burst {
+        told: slot.full,
+        bits,
+    };
+    let first = Burst {
+        told: slot.subslot1,
+        bits: bits1,
+    };
+    let second = Burst {
+        told: slot.subslot2,
+        bits: bits2,
+    };
+    let opened = form.by_form(Text::new(), b"", b"{");
+    let numbered = form.with_number(opened, b"", b"slot", slot.time.0 as u64);
     // The counter of a slot that was taken is 0 or more.
     let counter = dsp_types::unsigned(slot.closing_counter.0);
-    let timed = with_next_number(numbered, form, b"", b"sample", counter);
-    let linked = with_link(timed, form, link);
-    let full = with_burst(linked, form, has_bits, b"", slot.full, bits);
-    let whole = with_halves(full, form, has_bits, link, slot, bits1, bits2);
-    by_form(whole, form, b"\n", b"}\n")
+    let timed = form.with_next_number(numbered, b"", b"sample", counter);
+    let linked = style.with_link(timed);
+    let shown = style.with_burst(linked, b"", full);
+    let whole = style.with_halves(shown, first, second);
+    form.by_form(whole, b"\n", b"}\n")
 }

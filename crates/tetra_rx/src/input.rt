@@ -1,7 +1,6 @@
 // A file of samples, read block by block.
 ghost use Rattle.std.specs.Prelude.{◌<◌, ◌≤◌};
 
-use dsp_types::least;
 use iq_format::Format;
 use std::io::Read;
 use streams::Host;
@@ -20,38 +19,7 @@ pub struct Input<R> {
     // So many bytes stand at the block's begin.
     held: usize,
     pub is_over: bool,
-}
-
-// Reads into a part of the block, and answers how many bytes: none at the end, where the read fails, which is told, and
-// where the part is none.
-fn read_between<H: Host, R: Read>(
-    rt: &H,
-    input: &mut R,
-    block: &mut [u8],
-    from: usize,
-    to: usize,
-    what: &[u8],
-) -> usize {
-    if to <= from {
-        return 0;
-    }
-    if block.len() < to {
-        return 0;
-    }
-    streams::read_or_tell(rt, input, &mut block[from..to], what).unwrap_or(0)
-}
-
-// Moves the bytes between these places to the front.
-fn move_to_front(block: &mut [u8], from: usize, to: usize) {
-    if to <= from {
-        return;
-    }
-    if block.len() < to {
-        return;
-    }
-    for i in 0..to - from {
-        block[i] = block[from + i];
-    }
+    ghost in_block: { held ≤ 65536 },
 }
 
 // The first n samples of all parts, since a part of an array behind a reference cannot be lent.
@@ -61,15 +29,15 @@ pub(crate) fn first_samples(parts: &Parts, n: usize) -> &[f32] {
 
 // n samples behind the first `from`, or all of them where there are fewer.
 pub(crate) fn samples_from(parts: &[f32], from: usize, n: usize) -> &[f32] {
-    let start = least(from, parts.len() / 2);
+    let start = from.min(parts.len() / 2);
     slot_lines::first_samples(&parts[2 * start..], n)
 }
 
 // Sets the parts between these places to zero.
 fn silence(parts: &mut [f32], from: usize, to: usize) {
-    let end = least(to, parts.len());
-    for i in from..end {
-        parts[i] = 0.0;
+    let end = to.min(parts.len());
+    if from < end {
+        parts[from..end].fill(0.0);
     }
 }
 
@@ -95,36 +63,40 @@ impl<R: Read> Input<R> {
     }
 
     // How many bytes of half a sample are held.
-    pub(crate) fn rest(&self) -> usize {
+    pub(crate) fn rest(&self) -> usize
+        ensures { result ≤ 8 }
+    {
         self.held % self.sample_bytes()
     }
 
     // Reads on where no whole sample is held.
     pub(crate) fn fill<H: Host>(&mut self, rt: &H, block: &mut Block, what: &[u8]) {
-        if self.is_over | (0 < self.samples()) {
+        let bytes = self.sample_bytes();
+        if self.is_over || bytes <= self.held {
             return;
         }
-        let room = self.sample_bytes() * MOST;
-        let got = read_between(rt, &mut self.from, block, self.held, room, what);
-        if got > 0 {
-            self.held = self.held.wrapping_add(got);
-        } else {
-            self.is_over = true;
-        }
+        let room = &mut block[self.held..bytes * MOST];
+        let got = streams::read_or_tell(rt, &mut self.from, room, what).unwrap_or(0);
+        self.held += got;
+        self.is_over = got == 0;
     }
 
     // The first n samples are decoded, zeros behind those that are held.
     pub(crate) fn decode(&self, block: &Block, n: usize, parts: &mut Parts) {
-        let count = iq_format::decode(self.format, text::front(block, self.held), parts);
+        let count = iq_format::decode(self.format, &block[..self.held], parts);
         silence(parts, count - count % 2, n.wrapping_add(n));
     }
 
     // The first n samples are done with; where there were fewer, bytes of half a sample are left.
     pub(crate) fn without(&mut self, block: &mut Block, n: usize) {
-        let bytes = least(n, MOST) * self.sample_bytes();
+        let bytes = n.min(MOST) * self.sample_bytes();
         if bytes < self.held {
-            move_to_front(block, bytes, self.held);
-            self.held -= bytes;
+            let left = self.held - bytes;
+            // The library has no copy within one slice.
+            for i in 0..left {
+                block[i] = block[bytes + i];
+            }
+            self.held = left;
         } else {
             self.held = self.rest();
         }

@@ -9,25 +9,8 @@ mod options;
 mod report;
 mod tally;
 
-use options::Options;
+use options::{Asked, Options};
 use streams::Host;
-
-// Says what is wrong with the command line.
-fn refuse<H: Host>(rt: &H, wrong: u8) {
-    match wrong {
-        options::UNKNOWN_FORMAT => program::refuse(
-            rt,
-            b"tetra_rx",
-            b"--format takes cf32, cs16 or cu8",
-        ),
-        options::TWO_NAMES => program::refuse(rt, b"tetra_rx", b"more than one file name"),
-        options::ONE_INPUT => {
-            program::refuse(rt, b"tetra_rx", b"both links cannot be standard input")
-        }
-        options::NO_VALUE => program::refuse(rt, b"tetra_rx", b"the last option takes a value"),
-        _ => program::refuse_option(rt, b"tetra_rx"),
-    }
-}
 
 fn help<H: Host>(rt: &H) {
     program::help(
@@ -65,24 +48,18 @@ fn receive<H: Host>(rt: &H, options: Options) {
     let Some(source) = program::open(rt, b"tetra_rx", options.downlink) else {
         return;
     };
-    if options.uplink == 0 {
+    if options.uplink.is_none() {
         alone::receive(rt, source, options);
-        return;
-    }
-    if let Some(up_source) = program::open(rt, b"tetra_rx", options.uplink) {
+    } else if let Some(up_source) = program::open(rt, b"tetra_rx", options.uplink) {
         both::receive(rt, source, up_source, options);
     }
 }
 
 fn main(rt: HostRuntime) {
-    let options = options::read(&rt);
-    if options.is_help {
-        help(&rt);
-    } else if options.is_version {
-        program::version(&rt, b"tetra_rx");
-    } else if options.wrong != options::FINE {
-        refuse(&rt, options.wrong);
-    } else {
-        receive(&rt, options);
+    match options::read(&rt) {
+        Ok(Asked::Help) => help(&rt),
+        Ok(Asked::Version) => program::version(&rt, b"tetra_rx"),
+        Ok(Asked::Receive(options)) => receive(&rt, options),
+        Err(wrong) => program::refuse(&rt, b"tetra_rx", wrong),
     }
 }

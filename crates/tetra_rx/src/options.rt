@@ -3,205 +3,182 @@ use iq_format::Format;
 use program::{Kind, Words, is_word};
 use slot_text::Form;
 use std::env::Env;
-
-// What the next word is the value of.
-const NOTHING: u8 = 0;
-
-const FORMAT: u8 = 1;
-
-const UPLINK: u8 = 2;
+use std::fmt;
 
 // What is wrong with the command line.
-pub(crate) const FINE: u8 = 0;
+#[derive(Clone, Copy, Debug, PartialEq, Eq)]
+pub(crate) enum Wrong {
+    Word(program::Wrong),
+    UnknownFormat,
+    NoValue,
+    OneInput,
+}
 
-pub(crate) const UNKNOWN_OPTION: u8 = 1;
-
-pub(crate) const UNKNOWN_FORMAT: u8 = 2;
-
-pub(crate) const TWO_NAMES: u8 = 3;
-
-pub(crate) const NO_VALUE: u8 = 4;
-
-pub(crate) const ONE_INPUT: u8 = 5;
+impl fmt::Display for Wrong {
+    fn fmt<W: fmt::Write>(&self, f: &mut fmt::Formatter<W>) -> fmt::Result {
+        match self {
+            Wrong::Word(wrong) => write!(f, "{wrong}"),
+            Wrong::UnknownFormat => f.write_str("--format takes cf32, cs16 or cu8"),
+            Wrong::NoValue => f.write_str("the last option takes a value"),
+            Wrong::OneInput => f.write_str("both links cannot be standard input"),
+        }
+    }
+}
 
 #[derive(Clone, Copy)]
-pub struct Options {
-    pub is_help: bool,
-    pub is_version: bool,
-    pub wrong: u8,
+pub(crate) struct Options {
     pub is_quiet: bool,
     pub is_progress: bool,
     pub has_bits: bool,
-    is_json: bool,
-    // 0 for cf32, 1 for cs16, 2 for cu8.
-    format: u8,
-    // The arguments that name the files of the downlink, 0 for standard input, and of the uplink, 0 for none.
-    pub downlink: usize,
-    pub uplink: usize,
-    // Whether they are standard input.
-    down_is_input: bool,
-    up_is_input: bool,
-    // What the next word is the value of.
-    value_of: u8,
-}
-
-// The options behind a word, and the words that are left.
-#[derive(Clone, Copy)]
-struct Behind {
-    options: Options,
-    words: Words,
+    form: Form,
+    format: Format,
+    // The arguments that name the files of the downlink, standard input where there is none, and of the uplink.
+    pub downlink: Option<usize>,
+    pub uplink: Option<usize>,
 }
 
 impl Options {
-    fn new() -> Options {
-        Options {
-            is_help: false,
-            is_version: false,
-            wrong: FINE,
-            is_quiet: false,
-            is_progress: false,
-            has_bits: true,
-            is_json: false,
-            format: 0,
-            downlink: 0,
-            uplink: 0,
-            down_is_input: true,
-            up_is_input: false,
-            value_of: NOTHING,
-        }
-    }
-
     pub(crate) fn format(self) -> Format {
-        let format = self.format;
-        match format {
-            1 => Format::Cs16,
-            2 => Format::Cu8,
-            _ => Format::Cf32,
-        }
+        self.format
     }
 
     pub(crate) fn form(self) -> Form {
-        if self.is_json {
-            Form::Json
-        } else {
-            Form::Plain
+        self.form
+    }
+}
+
+#[derive(Clone, Copy)]
+pub(crate) enum Asked {
+    Help,
+    Version,
+    Receive(Options),
+}
+
+// An option whose value is the next word.
+#[derive(Clone, Copy)]
+enum Valued {
+    Format,
+    Uplink,
+}
+
+// What the words up to the next one ask for.
+#[derive(Clone, Copy)]
+struct Reader {
+    // Help or the version, where they are asked for.
+    told: Option<Asked>,
+    wrong: Option<Wrong>,
+    valued: Option<Valued>,
+    options: Options,
+    // Whether the links are standard input.
+    down_is_input: bool,
+    up_is_input: bool,
+}
+
+impl Reader {
+    fn new() -> Reader {
+        Reader {
+            told: None,
+            wrong: None,
+            valued: None,
+            options: Options {
+                is_quiet: false,
+                is_progress: false,
+                has_bits: true,
+                form: Form::Plain,
+                format: Format::Cf32,
+                downlink: None,
+                uplink: None,
+            },
+            down_is_input: true,
+            up_is_input: false,
         }
     }
 
     // The first thing that is wrong is told.
-    fn with_wrong(self, what: u8) -> Options {
-        let mut options = self;
-        if options.wrong == FINE {
-            options.wrong = what;
-        }
-        options
+    fn refuse(&mut self, wrong: Wrong) {
+        self.wrong = self.wrong.or(Some(wrong));
     }
 
-    fn with_option(self, word: &[u8]) -> Options {
-        let mut options = self;
-        if is_word(word, b"--quiet") {
-            options.is_quiet = true;
-        } else if is_word(word, b"--progress") {
-            options.is_progress = true;
-        } else if is_word(word, b"--no-bits") {
-            options.has_bits = false;
-        } else if is_word(word, b"--json") {
-            options.is_json = true;
-        } else if is_word(word, b"--format") {
-            options.value_of = FORMAT;
-        } else if is_word(word, b"--uplink") {
-            options.value_of = UPLINK;
-        } else {
-            options = self.with_wrong(UNKNOWN_OPTION);
+    fn read_option(&mut self, word: &[u8]) {
+        match word {
+            b"--quiet" => self.options.is_quiet = true,
+            b"--progress" => self.options.is_progress = true,
+            b"--no-bits" => self.options.has_bits = false,
+            b"--json" => self.options.form = Form::Json,
+            b"--format" => self.valued = Some(Valued::Format),
+            b"--uplink" => self.valued = Some(Valued::Uplink),
+            _ => self.refuse(Wrong::Word(program::Wrong::UnknownOption)),
         }
-        options
     }
 
     // The word, the argument at that place, names the downlink's file.
-    fn with_name(self, word: &[u8], at: usize) -> Options {
-        if self.downlink > 0 {
-            return self.with_wrong(TWO_NAMES);
+    fn read_name(&mut self, word: &[u8], at: usize) {
+        if self.options.downlink.is_some() {
+            self.refuse(Wrong::Word(program::Wrong::TwoNames));
+        } else {
+            self.options.downlink = Some(at);
+            self.down_is_input = is_word(word, b"-");
         }
-        let mut options = self;
-        options.downlink = at;
-        options.down_is_input = is_word(word, b"-");
-        options
     }
 
-    fn with_word(self, kind: Kind, word: &[u8], at: usize) -> Options {
-        let mut options = self;
+    fn read_word(&mut self, kind: Kind, word: &[u8], at: usize) {
         match kind {
             Kind::Ends => {}
-            Kind::Help => options.is_help = true,
-            Kind::Version => options.is_version = true,
-            Kind::Option => options = self.with_option(word),
-            Kind::Name => options = self.with_name(word, at),
-        }
-        options
-    }
-
-    fn with_format(self, word: &[u8]) -> Options {
-        let mut options = self;
-        if is_word(word, b"cf32") {
-            options.format = 0;
-        } else if is_word(word, b"cs16") {
-            options.format = 1;
-        } else if is_word(word, b"cu8") {
-            options.format = 2;
-        } else {
-            options = self.with_wrong(UNKNOWN_FORMAT);
-        }
-        options
-    }
-
-    // The word is the value of the option before it.
-    fn with_value(self, word: &[u8], at: usize) -> Options {
-        let mut options = self;
-        options.value_of = NOTHING;
-        if self.value_of == FORMAT {
-            options.with_format(word)
-        } else {
-            options.uplink = at;
-            options.up_is_input = is_word(word, b"-");
-            options
+            Kind::Help => self.told = Some(Asked::Help),
+            Kind::Version => self.told = self.told.or(Some(Asked::Version)),
+            Kind::Option => self.read_option(word),
+            Kind::Name => self.read_name(word, at),
         }
     }
 
-    fn with_next<E: Env>(self, rt: &E, words: Words) -> Behind {
-        let mut buf = [0u8; 4096];
-        let at = words.at;
-        if self.value_of == NOTHING {
-            let word = words.next(rt, &mut buf);
-            let left = word.words;
-            let kind = word.kind;
-            Behind {
-                options: self.with_word(kind, &buf[..word.len], at),
-                words: left,
+    fn read_format(&mut self, word: &[u8]) {
+        match word {
+            b"cf32" => self.options.format = Format::Cf32,
+            b"cs16" => self.options.format = Format::Cs16,
+            b"cu8" => self.options.format = Format::Cu8,
+            _ => self.refuse(Wrong::UnknownFormat),
+        }
+    }
+
+    // The word, the argument at that place, is the value of the option before it.
+    fn read_value(&mut self, valued: Valued, word: &[u8], at: usize) {
+        match valued {
+            Valued::Format => self.read_format(word),
+            Valued::Uplink => {
+                self.options.uplink = Some(at);
+                self.up_is_input = is_word(word, b"-");
             }
-        } else {
-            let word = words.value(rt, &mut buf);
-            let left = word.words;
-            Behind {
-                options: self.with_value(&buf[..word.len], at),
-                words: left,
-            }
+        }
+    }
+
+    // Help and the version go before what is wrong.
+    fn finish(mut self) -> Result<Asked, Wrong> {
+        if self.valued.is_some() {
+            self.refuse(Wrong::NoValue);
+        }
+        if self.down_is_input && self.up_is_input {
+            self.refuse(Wrong::OneInput);
+        }
+        match (self.told, self.wrong) {
+            (Some(told), _) => Ok(told),
+            (None, Some(wrong)) => Err(wrong),
+            (None, None) => Ok(Asked::Receive(self.options)),
         }
     }
 }
 
-pub(crate) fn read<E: Env>(rt: &E) -> Options {
-    let mut options = Options::new();
+pub(crate) fn read<E: Env>(rt: &E) -> Result<Asked, Wrong> {
+    let mut reader = Reader::new();
     let mut words = Words::new();
-    for _ in 1..program::count(rt) {
-        let read = options.with_next(rt, words);
-        options = read.options;
-        words = read.words;
+    for at in 1..program::count(rt) {
+        let mut buf = [0u8; 4096];
+        match reader.valued.take() {
+            Some(valued) => reader.read_value(valued, words.value(rt, &mut buf), at),
+            None => {
+                let (kind, word) = words.next(rt, &mut buf);
+                reader.read_word(kind, word, at);
+            }
+        }
     }
-    if options.value_of != NOTHING {
-        options = options.with_wrong(NO_VALUE);
-    }
-    if options.down_is_input & options.up_is_input {
-        options = options.with_wrong(ONE_INPUT);
-    }
-    options
+    reader.finish()
 }

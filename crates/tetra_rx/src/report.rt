@@ -1,4 +1,5 @@
 // What is told on standard error.
+use crate::tally::Mode;
 use streams::Host;
 use text::Text;
 
@@ -37,11 +38,10 @@ pub(crate) fn with_count(text: Text, n: u64, what: &[u8]) -> Text {
     }
 }
 
-pub(crate) fn with_mode(text: Text, mode: u8) -> Text {
-    if mode == 2 {
-        text.append(b"locked")
-    } else {
-        text.append(b"searching")
+pub(crate) fn with_mode(text: Text, mode: Mode) -> Text {
+    match mode {
+        Mode::Locked => text.append(b"locked"),
+        Mode::Searching => text.append(b"searching"),
     }
 }
 

@@ -13,7 +13,23 @@ const SECOND: u64 = 72000;
 
 const MINUTE: u64 = 60 * SECOND;
 
-const SEARCHING: u8 = 1;
+// What the downlink's receiver does.
+#[derive(Clone, Copy, Debug, PartialEq, Eq)]
+pub(crate) enum Mode {
+    Searching,
+    Locked,
+}
+
+// A receiver keeps its mode as a number, for C: a downlink's is 1 or 2.
+impl From<u8> for Mode {
+    fn from(number: u8) -> Mode {
+        if number == 2 {
+            Mode::Locked
+        } else {
+            Mode::Searching
+        }
+    }
+}
 
 // A counter as the receiver takes it.
 pub(crate) fn count_of(counter: u64) -> SampleCount {
@@ -23,7 +39,7 @@ pub(crate) fn count_of(counter: u64) -> SampleCount {
 // How many samples from that counter on the downlink is given in a step: while it searches, none behind the one at which its
 // window closes, so that a step ends where it locks. A loss comes with a slot, which ends a step anyway.
 pub(crate) fn step_length(down: State, counter: u64) -> usize {
-    if down.slots.mode == SEARCHING {
+    if Mode::from(down.slots.mode) == Mode::Searching {
         down.slots.quiet_samples(count_of(counter)).wrapping_add(1)
     } else {
         usize::MAX
@@ -41,40 +57,39 @@ pub struct Tally {
     // Whether the lines stand on a terminal, where the progress line is taken away before each.
     is_shared: bool,
     // The downlink's mode, since which sample, and whether advice was given since.
-    mode: u8,
+    mode: Mode,
     since: u64,
     is_advised: bool,
     // When the progress line is written next.
     next: u64,
     down: Link,
-    has_uplink: bool,
-    up: Link,
+    up: Option<Link>,
 }
 
 impl Tally {
     pub(crate) fn new<H: Host>(rt: &H, options: Options) -> Tally {
         let is_terminal = rt.errors().is_terminal();
-        let is_progress = (is_terminal | options.is_progress) & !options.is_quiet;
-        let is_shared = rt.output().is_terminal() & is_progress;
+        let is_progress = (is_terminal || options.is_progress) && !options.is_quiet;
+        let is_shared = rt.output().is_terminal() && is_progress;
         Tally {
             counter: 0,
             is_open: true,
             is_quiet: options.is_quiet,
             is_progress,
             is_shared,
-            mode: SEARCHING,
+            mode: Mode::Searching,
             since: 0,
             is_advised: false,
             next: SECOND,
             down: Link::new(false),
-            has_uplink: options.uplink > 0,
-            up: Link::new(true),
+            up: options.uplink.map(|_| Link::new(true)),
         }
     }
 
     // With the mode that the downlink is in behind the sample with that counter, the last of a step: where the mode has
     // changed, a window closed at this sample.
-    pub(crate) fn with_mode<H: Host>(self, rt: &H, mode: u8, counter: u64) -> Tally {
+    pub(crate) fn with_mode<H: Host>(self, rt: &H, number: u8, counter: u64) -> Tally {
+        let mode = Mode::from(number);
         if mode == self.mode {
             return self;
         }
@@ -93,103 +108,96 @@ impl Tally {
         next
     }
 
+    // A link that there is.
+    fn link(&mut self, is_up: bool) -> Option<&mut Link> {
+        if is_up {
+            self.up.as_mut()
+        } else {
+            Some(&mut self.down)
+        }
+    }
+
     // With a slot whose line is printed.
-    pub(crate) fn print<H: Host>(self, rt: &H, is_up: bool, line: Text) -> Tally {
+    pub(crate) fn print<H: Host>(mut self, rt: &H, is_up: bool, line: Text) -> Tally {
         if self.is_shared {
             report::clear(rt);
         }
-        let mut next = self;
         if let Err(error) = line.print(rt) {
             program::fail(rt, b"tetra_rx", b"the lines cannot be written", error);
-            next.is_open = false;
+            self.is_open = false;
         }
-        if is_up {
-            next.up = self.up.with_slot();
-        } else {
-            next.down = self.down.with_slot();
+        if let Some(link) = self.link(is_up) {
+            link.count_slot();
         }
-        next
+        self
     }
 
     // With a refused sample.
-    pub(crate) fn refuse<H: Host>(self, rt: &H, is_up: bool, counter: u64) -> Tally {
-        let mut next = self;
-        if is_up {
-            next.up = self
-                .up
-                .told_by(rt, counter, self.is_progress)
-                .with_refused(counter);
-        } else {
-            next.down = self
-                .down
-                .told_by(rt, counter, self.is_progress)
-                .with_refused(counter);
+    pub(crate) fn refuse<H: Host>(mut self, rt: &H, is_up: bool, counter: u64) -> Tally {
+        let is_progress = self.is_progress;
+        if let Some(link) = self.link(is_up) {
+            link.tell_by(rt, counter, is_progress);
+            link.refuse(counter);
         }
-        next
+        self
     }
 
     // After a minute of search without a lock.
-    fn advised<H: Host>(self, rt: &H) -> Tally {
+    fn advise<H: Host>(&mut self, rt: &H) {
         let searched = self.counter.wrapping_sub(self.since);
-        if self.is_quiet | self.is_advised | (self.mode != SEARCHING) | (searched < MINUTE) {
-            return self;
+        if self.is_quiet || self.is_advised || self.mode == Mode::Locked || searched < MINUTE {
+            return;
         }
         report::tell(
             rt,
             report::begun(false, self.is_progress),
             b"no lock for a minute: is the carrier within 1,600 Hz of 0, are there 72,000 samples a second, are I and Q exchanged?\n",
         );
-        let mut next = self;
-        next.is_advised = true;
-        next
+        self.is_advised = true;
     }
 
     // Writes the progress line anew after each second of samples, with the level of the newest.
-    fn progress<H: Host>(self, rt: &H, parts: &[f32]) -> Tally {
-        if !self.is_progress | (self.counter < self.next) {
-            return self;
+    fn progress<H: Host>(&mut self, rt: &H, parts: &[f32]) {
+        if !self.is_progress || self.counter < self.next {
+            return;
         }
         let samples = report::with_count(report::begun(false, true), self.counter, b" sample");
         let slots = self.down.with_slots(samples.append(b", "));
         let level = report::with_level(slots.append(b", "), iq_format::level(parts));
         let mode = report::with_mode(level.append(b", "), self.mode);
         report::tell(rt, report::with_number(mode, b" since ", self.since), b"");
-        let mut next = self;
-        next.next = self.counter.wrapping_add(SECOND);
-        next
+        self.next = self.counter.wrapping_add(SECOND);
     }
 
     // With so many samples more, of which the downlink's are given.
-    pub(crate) fn moved<H: Host>(self, rt: &H, n: usize, parts: &[f32]) -> Tally {
-        let mut next = self;
-        next.counter = self.counter.wrapping_add(n as u64);
-        next.down = self.down.told_by(rt, next.counter, self.is_progress);
-        next.up = self.up.told_by(rt, next.counter, self.is_progress);
-        next.advised(rt).progress(rt, parts).closed_at_end(rt)
+    pub(crate) fn moved<H: Host>(mut self, rt: &H, n: usize, parts: &[f32]) -> Tally {
+        self.counter = self.counter.wrapping_add(n as u64);
+        self.down.tell_by(rt, self.counter, self.is_progress);
+        if let Some(up) = &mut self.up {
+            up.tell_by(rt, self.counter, self.is_progress);
+        }
+        self.advise(rt);
+        self.progress(rt, parts);
+        self.close_at_end(rt);
+        self
     }
 
     // There are no more counters.
-    fn closed_at_end<H: Host>(self, rt: &H) -> Tally {
+    fn close_at_end<H: Host>(&mut self, rt: &H) {
         if self.counter < COUNTERS {
-            return self;
+            return;
         }
         report::tell(
             rt,
             report::begun(false, self.is_progress),
             b"no more samples, the counter is at its end\n",
         );
-        let mut next = self;
-        next.is_open = false;
-        next
+        self.is_open = false;
     }
 
     // How many of n samples have counters.
     pub(crate) fn room(self, n: usize) -> usize {
-        if COUNTERS <= self.counter {
-            return 0;
-        }
-        let left = COUNTERS - self.counter;
-        if left < n as u64 { left as usize } else { n }
+        COUNTERS.saturating_sub(self.counter).min(n as u64) as usize
     }
 
     // The bytes of half a sample are told.
@@ -215,9 +223,11 @@ impl Tally {
     }
 
     // Tells what is left: refused samples, the bytes of half a sample, and the summary.
-    pub(crate) fn finish<H: Host>(self, rt: &H, rest: usize, up_rest: usize) {
-        self.down.told(rt, self.is_progress);
-        self.up.told(rt, self.is_progress);
+    pub(crate) fn finish<H: Host>(mut self, rt: &H, rest: usize, up_rest: usize) {
+        self.down.tell(rt, self.is_progress);
+        if let Some(up) = &mut self.up {
+            up.tell(rt, self.is_progress);
+        }
         self.tell_rest(rt, false, rest);
         self.tell_rest(rt, true, up_rest);
         if !self.is_quiet {
@@ -226,15 +236,12 @@ impl Tally {
     }
 
     fn summary<H: Host>(self, rt: &H) {
-        let samples = report::with_count(
-            report::begun(false, self.is_progress),
-            self.counter,
-            b" sample",
-        );
+        let begun = report::begun(false, self.is_progress);
+        let samples = report::with_count(begun, self.counter, b" sample");
         let slots = self.down.summary(samples.append(b", "));
         report::tell(rt, report::with_mode(slots.append(b", "), self.mode), b"\n");
-        if self.has_uplink {
-            report::tell(rt, self.up.summary(report::begun(true, false)), b"\n");
+        if let Some(up) = self.up {
+            report::tell(rt, up.summary(report::begun(true, false)), b"\n");
         }
     }
 }

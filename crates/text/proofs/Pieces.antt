@@ -6,7 +6,7 @@ use Prim.Native.Nat.{ℕ, ◌+◌, ◌-◌, ◌≤◌, ◌<◌, min}
 use native.Mathlib.Omega.{arith}
 use native.Mathlib.Numerals.{add-one}
 use lib.ListN.{get_or, length, set, take, length-map, get_or-map}
-use lib.Seq.{paste, take-paste, take_all, take-suc, take-suc-set, take-take, take-append-le, take-append-add, length-take-le}
+use lib.Seq.{take_all, take-suc, take-suc-set, take-take, take-append-le, take-append-add, length-take-le}
 use Rattle.dsp_types.proofs.RingLaws.{le_or_lt}
 use Rattle.text.specs.Text.{cut, character_of}
 
@@ -24,17 +24,12 @@ module _ (bytes s : List ℕ) (n len count : ℕ) (h : length bytes ≡ 2048) (l
       let e : len ≡ min (length bytes) n = omega arith in
       rw e (take_least bytes n)
 
-  pub appended : (w : List ℕ) → w ≡ paste bytes len s count → take (len + count) w ≡ cut (take n bytes ++ s)
+  pub appended : {w : List ℕ} → w ≡ take len bytes ++ take count s → w ≡ cut (take n bytes ++ s)
   unfolding cut
-  appended w e =
+  appended e =
       let k : length (take len bytes) ≡ len = length-take-le len bytes (omega arith) in
       let m : 2048 ≡ length (take len bytes) + (2048 - len) = omega (arith, k) in
-      ap (take (len + count)) e
-      ∙ take-paste bytes len s count (omega arith) (omega arith)
-      ∙ rw (← held, c, take_least s (2048 - len)) (sym (ap (λ (x : ℕ). take x (take len bytes ++ s)) m ∙ take-append-add (take len bytes) s (2048 - len)))
-
-pub counted : (w : List ℕ) (n : ℕ) → length w ≡ 2048 → n ≤ 2048 → n ≡ length (take n w)
-counted w n h l = sym (length-take-le n w (omega arith))
+      e ∙ rw (← held, c, take_least s (2048 - len)) (sym (ap (λ (x : ℕ). take x (take len bytes ++ s)) m ∙ take-append-add (take len bytes) s (2048 - len)))
 
 -- bytes that are cut off need not be there
 pub cut_least : (t s : List ℕ) (n : ℕ) → n ≡ min (length s) 2048 → cut (t ++ take n s) ≡ cut (t ++ s)

@@ -4,7 +4,6 @@
 ghost use Rattle.std.specs.Prelude.{◌≡◌, [], ◌++◌, map, ◌≤◌, length, take};
 ghost use Rattle.text.specs.Text.{text_of, cut, decimal, character_of, type_name, trimmed};
 
-use dsp_types::least;
 use streams::Host;
 
 // The first len of the bytes; a larger len counts as 2,048.
@@ -18,29 +17,21 @@ pub struct Text {
 pub fn front(bytes: &[u8], len: usize) -> &[u8]
     ensures { result.now ≡ take len bytes.now }
 {
-    if len < bytes.len() {
-        &bytes[..len]
-    } else {
-        bytes
-    }
+    bytes.get(..len).unwrap_or(bytes)
 }
 
 // The bytes without one closing byte c.
 pub fn trimmed(bytes: &[u8], c: u8) -> &[u8]
     ensures { result.now ≡ trimmed c bytes.now }
 {
-    let n = bytes.len();
-    if n == 0 {
-        return bytes;
-    }
-    if bytes[n - 1] == c {
-        &bytes[..n - 1]
-    } else {
-        bytes
+    match bytes.split_last() {
+        Some((last, rest)) if *last == c => rest,
+        _ => bytes,
     }
 }
 
 // The character of a bit.
+#[tactic(auto, unfolding(crate::specs::Text::character_of))]
 fn character_of(bit: u8) -> u8
     ensures { result ≡ character_of bit }
 {
@@ -48,6 +39,7 @@ fn character_of(bit: u8) -> u8
 }
 
 impl Text {
+    #[tactic(auto, unfolding(crate::specs::Text::text_of))]
     pub fn new() -> Text
         ensures result_value { text_of result ≡ [] }
         ensures len_value { result.len ≡ 0 }
@@ -59,20 +51,16 @@ impl Text {
     }
 
     // With the bytes s behind it.
-    pub fn append(self, s: &[u8]) -> Text
+    #[tactic(auto, unfolding(crate::specs::Text::text_of, crate::specs::Text::cut))]
+    pub fn append(mut self, s: &[u8]) -> Text
         ensures result_value { text_of result ≡ cut (text_of self ++ s.now) }
         ensures len_bound { (result.len ≤ 2048) × (result.len ≡ length (text_of result)) }
     {
-        let mut bytes = self.bytes;
-        let len = least(self.len, 2048);
-        let count = least(s.len(), 2048 - len);
-        for i in 0..count {
-            bytes[len + i] = s[i];
-        }
-        Text {
-            bytes,
-            len: len + count,
-        }
+        let len = self.len.min(2048);
+        let count = s.len().min(2048 - len);
+        self.bytes[len..len + count].copy_from_slice(&s[..count]);
+        self.len = len + count;
+        self
     }
 
     // With a number in decimal behind it.
@@ -91,7 +79,7 @@ impl Text {
         ensures len_bound { (result.len ≤ 2048) × (result.len ≡ length (text_of result)) }
     {
         let mut characters = [0u8; 2048];
-        let count = least(bits.len(), 2048);
+        let count = bits.len().min(2048);
         for i in 0..count {
             characters[i] = character_of(bits[i]);
         }
@@ -99,6 +87,7 @@ impl Text {
     }
 
     // With a burst type's name behind it.
+    #[tactic(auto, unfolding(crate::specs::Text::type_name, crate::specs::Text::ascii))]
     pub fn type_name(self, burst_type: u32) -> Text
         ensures result_value { text_of result ≡ cut (text_of self ++ type_name burst_type) }
         ensures len_bound { (result.len ≤ 2048) × (result.len ≡ length (text_of result)) }
@@ -112,23 +101,20 @@ impl Text {
         }
     }
 
-    fn length(self) -> usize
-        ensures { (result ≤ 2048) × (result ≡ length (text_of self)) }
+    #[tactic(auto, unfolding(crate::specs::Text::text_of))]
+    pub fn as_bytes(&self) -> &[u8]
+        ensures { result.now ≡ text_of self.now }
     {
-        least(self.len, 2048)
+        front(&self.bytes, self.len)
     }
 
     // Writes it to standard output.
     pub fn print<H: Host>(self, rt: &H) -> std::io::Result<()> {
-        let bytes = self.bytes;
-        let len = self.length();
-        streams::print(rt, &bytes[..len])
+        streams::print(rt, self.as_bytes())
     }
 
     // Writes it to standard error.
     pub fn tell<H: Host>(self, rt: &H) {
-        let bytes = self.bytes;
-        let len = self.length();
-        streams::tell(rt, &bytes[..len]);
+        streams::tell(rt, self.as_bytes());
     }
 }

@@ -2,11 +2,11 @@
 use Rattle.text.proofs.Trimming.{trim_none, trim_last, trim_other}
 use Rattle.text.proofs.trimmed.Goals as goal
 
-pub returns-then-n-eq0 : goal.returns-then-n-eq0
-returns-then-n-eq0 c = trim_none c.args.c c.args.bytes.now c.if-n-eq0.true
+pub returns-in-Some : goal.returns-in-Some
+returns-in-Some c = trim_last c.args.c c.args.bytes.now c.in-Some.rest.now c.in-Some.last.now c.in-Some.ensures.cases.0 c.if-last-c.true
 
-pub returns-then-bytes-n : goal.returns-then-bytes-n
-returns-then-bytes-n c = trim_last c.args.c c.args.bytes.now c.if-n-eq0.false c.if-bytes-n.true
+pub returns-in_default : goal.returns-in_default
+returns-in_default c = trim_other c.args.c c.args.bytes.now c.in-Some.rest.now c.in-Some.last.now c.in-Some.ensures.cases.0 c.if-last-c.false
 
-pub returns-else-bytes-n : goal.returns-else-bytes-n
-returns-else-bytes-n c = trim_other c.args.c c.args.bytes.now c.if-n-eq0.false c.if-bytes-n.false
+pub returns-in_default-2 : goal.returns-in_default-2
+returns-in_default-2 c = trim_none c.args.c c.args.bytes.now (rw c.in_default.is at c.split_last.ensures.cases)

@@ -5,7 +5,7 @@ use Rattle.std.specs.Prelude.{Float}
 use Rattle.dsp_types.specs.Times.{fitted}
 use Rattle.slot_receiver.specs.Receiver.{Receiver}
 use Rattle.receiver.specs.Feed.{interleaved}
-use Rattle.slot_lines.specs.declared.listen.Style.{Style}
+use Rattle.slot_text.specs.declared.Style.{Style}
 use Rattle.slot_lines.specs.Blocks.{Step, stretch_of, step_made}
 use Rattle.slot_lines.proofs.Steps.{not_refused, is_refused, not_mended, is_mended, row_within, hears}
 use Rattle.slot_lines.proofs.listen.hear.Goals as goal

@@ -1,29 +1,19 @@
--- Each turn is `paste-suc`, and the text is what stands before and the copy.
-use Rattle.std.proofs.Common.{◌≡◌, ◌+◌, ◌≤◌, add-one, arith, rules}
-use lib.Seq.{paste, paste-zero, paste-suc}
+-- The text is what stands before, and the copy.
+use Rattle.std.proofs.Common.{◌≡◌, ◌+◌, List, ℕ, ◌++◌, length, take, ap, ◌∙◌, arith, rules, length-take-le}
+use Rattle.std.proofs.lemmas.Slice.{take-put_mid}
+use Rattle.std.proofs.lemmas.Grind.{common_steps}
 use Rattle.text.specs.Text.{text_of}
-use Rattle.text.proofs.Pieces.{appended, counted}
+use Rattle.text.proofs.Pieces.{appended}
 use Rattle.text.proofs.Text.append.Goals as goal
-
-pub loop-i-init : goal.loop-i-init
-loop-i-init c = (search rules, paste-zero c.args.self.bytes c.least-len.result c.args.s.now)
-
-pub loop-i-preserved : goal.loop-i-preserved
-loop-i-preserved c =
-    let l = c.loop-i in
-    (search rules, rw (l.invariant.1, add-one l.i) (paste-suc c.args.self.bytes c.least-len.result c.args.s.now l.i 0 (omega arith) (omega arith)))
 
 pub returns-clause-result_value : goal.returns-clause-result_value
 unfolding text_of
 returns-clause-result_value c =
-    let l = c.loop-i in
-    let count = c.least-count in
-    let e : l.i ≡ count.result = omega arith in
-    let w : l.bytes ≡ paste c.args.self.bytes c.least-len.result c.args.s.now count.result = rw e at l.invariant.1 in
-    appended c.args.self.bytes c.args.s.now c.args.self.len c.least-len.result count.result (search rules) c.least-len.ensures count.ensures l.bytes w
-
-pub returns-clause-len_bound : goal.returns-clause-len_bound
-unfolding text_of
-returns-clause-len_bound c =
-    let few : c.least-len.result + c.least-count.result ≤ 2048 = omega arith in
-    (few, counted c.loop-i.bytes (c.least-len.result + c.least-count.result) c.loop-i.invariant.0 few)
+    let a = c.args in
+    let len = c.min-len.result in
+    let count = c.min-count.result in
+    let h : length a.self.bytes ≡ 2048 = search rules in
+    let copied : c.copy_from_slice.new.self ≡ take count a.s.now = grind (arith, common_steps, c.copy_from_slice.ensures.after) in
+    let long : length c.copy_from_slice.new.self ≡ count = rw copied (length-take-le count a.s.now (omega arith)) in
+    appended a.self.bytes a.s.now a.self.len len count h c.min-len.ensures c.min-count.ensures
+    (take-put_mid len _ a.self.bytes c.copy_from_slice.new.self (len + count) (omega (arith, long)) (omega (arith, h)) ∙ ap (λ (l : List ℕ). take len a.self.bytes ++ l) copied)

@@ -13,7 +13,7 @@ loop-i-preserved c =
 pub returns-clause-result_value : goal.returns-clause-result_value
 returns-clause-result_value c =
     let l = c.loop-i in
-    let count = c.least-count in
+    let count = c.min-count in
     let e : l.i ≡ count.result = omega arith in
     let m = rw e at l.invariant.1 in
     c.append.ensures.result_value ∙ ap (λ (s : List ℕ). cut (text_of c.args.self ++ s)) m ∙ cut_least (text_of c.args.self) (map character_of c.args.bits.now) count.result (rw (length-map c.args.bits.now character_of) count.ensures)

@@ -3,11 +3,11 @@ use Rattle.std.proofs.Common.{ℕ, List, ◌++◌, ap, ◌∙◌}
 use Rattle.text.specs.Text.{text_of, cut, ascii, type_name}
 use Rattle.text.proofs.Cutting.{onto}
 use Rattle.slot_text.proofs.Pieces.{word_piece}
-use Rattle.slot_text.proofs.line.with_type.Goals as goal
+use Rattle.slot_text.proofs.Form.with_type.Goals as goal
 
 pub returns : goal.returns
 unfolding ascii
 returns c =
     let a = c.args in
     let t = text_of a.text in
-    onto t _ _ (onto t _ _ c.up_to_word.ensures c.type_name.ensures.result_value) c.by_form.ensures ∙ ap (λ (l : List ℕ). cut (t ++ l)) (word_piece a.form _ (type_name a.train_type))
+    onto t _ _ (onto t _ _ c.up_to_word.ensures c.type_name.ensures.result_value) c.quote.ensures ∙ ap (λ (l : List ℕ). cut (t ++ l)) (word_piece a.self _ (type_name a.train_type))

@@ -5,7 +5,7 @@ use Rattle.text.proofs.Cutting.{onto}
 use Rattle.slot_text.proofs.Pieces.{fields_append}
 use Rattle.slot_text.specs.Fields.{fields_text}
 use Rattle.slot_text.specs.Lines.{half_fields}
-use Rattle.slot_text.proofs.line.with_halves.Goals as goal
+use Rattle.slot_text.proofs.Style.with_halves.Goals as goal
 
 pub returns-in-Alone : goal.returns-in-Alone
 unfolding half_fields fields_text
@@ -19,4 +19,4 @@ pub returns-in-Up : goal.returns-in-Up
 unfolding half_fields ascii
 returns-in-Up c =
     let t = text_of c.args.text in
-    rw c.in-Up.is (onto t _ _ c.with_burst-first.ensures c.with_burst.ensures ∙ ap (λ (l : List ℕ). cut (t ++ l)) (fields_append c.args.form _ _))
+    rw c.in-Up.is (onto t _ _ c.with_burst-half.ensures c.with_burst.ensures ∙ ap (λ (l : List ℕ). cut (t ++ l)) (fields_append c.args.self.form _ _))

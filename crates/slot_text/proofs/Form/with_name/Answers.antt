@@ -3,12 +3,12 @@ use Rattle.std.proofs.Common.{ℕ, List, ◌++◌, ap, ◌∙◌}
 use Rattle.text.specs.Text.{text_of, cut, ascii}
 use Rattle.text.proofs.Cutting.{onto}
 use Rattle.slot_text.proofs.Pieces.{name_piece}
-use Rattle.slot_text.proofs.fields.with_name.Goals as goal
+use Rattle.slot_text.proofs.Form.with_name.Goals as goal
 
 pub returns : goal.returns
 unfolding ascii
 returns c =
     let a = c.args in
     let t = text_of a.text in
-    let p = onto t _ _ (onto t _ _ c.by_form.ensures c.append.ensures.result_value) c.append-named.ensures.result_value in
-    onto t _ _ p c.by_form-2.ensures ∙ ap (λ (l : List ℕ). cut (t ++ l)) (name_piece a.form a.prefix.now a.name.now)
+    let p = onto t _ _ (onto t _ _ c.quote.ensures c.append.ensures.result_value) c.append-named.ensures.result_value in
+    onto t _ _ p c.by_form.ensures ∙ ap (λ (l : List ℕ). cut (t ++ l)) (name_piece a.self a.prefix.now a.name.now)
