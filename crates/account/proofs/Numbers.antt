@@ -17,12 +17,11 @@ use Rattle.burst_finder.specs.declared.SlotType.TheVariants as SlotType
 use Rattle.slot_receiver.specs.Receiver as R
 use Rattle.slot_receiver.specs.declared.Mode.{Mode}
 use Rattle.slot_receiver.specs.declared.Mode.TheVariants.{Idle, DlUnsynchronized, Dl, Ul}
-use Rattle.receiver.specs.declared.feed.Stop.{Stop}
 use Rattle.rx_slot.specs.Slots.{HandedSlot, with_views, valid_slot}
 use Rattle.slot_receiver.specs.Receiver.{Receiver, with_mode, with_clock, with_lock, with_waits, with_slot, with_next, with_signal, close_window, valid_count, valid_clock, valid, process_sample, feed_zeros, accept}
 use Rattle.slot_receiver.specs.Windows.{slot, Window, search_kind, kind_of, window_if, window_at, window_of, zeros_windows, accept_windows, is_slot, hands_over}
 use Rattle.slot_receiver.specs.Calls.{took, Outcome, unless, sample_refusal, sampled, sample_outcome, take_refusal, taken, take_outcome}
-use Rattle.receiver.specs.Feed.{Block, fed_one, fed_by, feed_of}
+use Rattle.receiver.specs.Feed.{at_slot, Block, fed_one, fed_by, feed_of}
 use Rattle.account.specs.Numbers.{Numbered}
 use Rattle.slot_receiver.proofs.Taken.{Views, none_valid, window_valid, valid_number}
 use Rattle.slot_receiver.proofs.Closing.{search_none}
@@ -222,19 +221,19 @@ sample_numbered zero r x c w h m e = (accept_step r x c).windows w h m e
 sample_numbered (suc n) r x c w h m e = absurd (Memᴰ.not-nil m)
 
 -- a block: one sample by its refusal, and what the others come to
-fed_numbered : (n : ℕ) (r : Receiver) (x : ComplexSample) (c : ℤ) (others : Block) → (others.stop ≡ Stop.Slot → others.receiver.slot.time < slots)
-    → (o : Outcome) → unless n r [] (sampled r x c) ≡ o → (fed_by o.reply r (fed_one (hands_over o.windows) o.receiver others)).stop ≡ Stop.Slot
+fed_numbered : (n : ℕ) (r : Receiver) (x : ComplexSample) (c : ℤ) (others : Block) → (others.stop ≡ at_slot → others.receiver.slot.time < slots)
+    → (o : Outcome) → unless n r [] (sampled r x c) ≡ o → (fed_by o.reply r (fed_one (hands_over o.windows) o.receiver others)).stop ≡ at_slot
     → (fed_by o.reply r (fed_one (hands_over o.windows) o.receiver others)).receiver.slot.time < slots
 unfolding unless sampled fed_by fed_one
 fed_numbered zero r x c others h o p = rw (← p) (go (hands_over (accept_windows r x c)) refl)
   where
-    go : (b : Bool) → hands_over (accept_windows r x c) ≡ b → (fed_one b (accept r x c) others).stop ≡ Stop.Slot
+    go : (b : Bool) → hands_over (accept_windows r x c) ≡ b → (fed_one b (accept r x c) others).stop ≡ at_slot
         → (fed_one b (accept r x c) others).receiver.slot.time < slots
     go true f e = (accept_step r x c).handed f
     go false f e = h e
 fed_numbered (suc n) r x c others h o p = rw (← p) (λ e. absurd (let z : ◌≡◌ {A = ℕ} 0 1 = cc in omega arith))
 
-feed_numbered : (xs : List ComplexSample) (r : Receiver) (c : ℤ) → (feed_of r xs c).stop ≡ Stop.Slot → (feed_of r xs c).receiver.slot.time < slots
+feed_numbered : (xs : List ComplexSample) (r : Receiver) (c : ℤ) → (feed_of r xs c).stop ≡ at_slot → (feed_of r xs c).receiver.slot.time < slots
 unfolding feed_of sample_outcome
 feed_numbered [] r c e = absurd (let z : ◌≡◌ {A = ℕ} 0 1 = cc in omega arith)
 feed_numbered (x ∷ xs) r c e =

@@ -2,11 +2,11 @@
 use mathlib.Core.Path.{◌≡◌, refl, sym, ap, ◌∙◌}
 use mathlib.Core.Bool.{Bool, true, false, cond}
 use mathlib.Core.List.{List, [], ◌∷◌, ◌++◌, append_assoc, append-nil}
-use Prim.Native.Nat.{ℕ, zero, suc, ◌+◌, ◌*◌, ◌≤◌, ◌<◌}
+use Prim.Native.Nat.{ℕ, zero, suc, ◌+◌, ◌*◌, ◌≤◌, min}
 use native.Mathlib.Omega.{arith}
 use lib.IntN.{ℤ, pos, negsuc}
 use lib.Signed.{mag, lt_z}
-use lib.ListN.{length, get_or, take, drop, set, replicate, length-append, drop_of_length-le}
+use lib.ListN.{length, get_or, take, drop, replicate, length-append, length-replicate, drop_of_length-le}
 use lib.Seq.{take_at, drop-append-add, drop-drop}
 use Rattle.rx_slot.specs.declared.RxBurst.{RxBurst}
 use Rattle.rx_slot.specs.declared.RxSlot.{RxSlot}
@@ -24,12 +24,18 @@ unfolding padded
 padded_none zero = refl
 padded_none (suc n) = ap (λ (l : List ℕ). 0 ∷ l) (padded_none n)
 
--- one more of the same
-pub padded_more : (n i b : ℕ) → i < n → set (padded n (replicate i b)) i b ≡ padded n (replicate (suc i) b)
+-- bits in the place of zeros
+pub padded_behind : (n : ℕ) (bits : List ℕ) → length bits ≤ n → bits ++ drop (length bits) (replicate n 0) ≡ padded n bits
 unfolding padded
-padded_more zero i b h = absurd (omega arith)
-padded_more (suc n) zero b h = refl
-padded_more (suc n) (suc i) b h = ap (λ (l : List ℕ). b ∷ l) (padded_more n i b (omega arith))
+padded_behind n [] h = sym (padded_none n)
+padded_behind zero (b ∷ bits) h = absurd (omega arith)
+padded_behind (suc n) (b ∷ bits) h = ap (λ (l : List ℕ). b ∷ l) (padded_behind n bits (omega arith))
+
+-- .. so many of one
+pub sevens_lem : (k n : ℕ) (s : List ℕ) → k ≡ min n 1024 → s ≡ replicate k 7 → s ++ drop k (replicate 1024 0) ≡ padded 1024 (replicate (min n 1024) 7)
+sevens_lem k n s e f =
+    let h : length (replicate {A = ℕ} k 7) ≡ k = length-replicate {A = ℕ} k 7 in
+    rw (f, ← e) (rw h at (padded_behind 1024 (replicate {A = ℕ} k 7) (omega arith)))
 
 -- others in the bits' place
 pub padded_over : (n : ℕ) (bits others : List ℕ) → length bits ≤ n → length others ≡ length bits → others ++ drop (length bits) (padded n bits) ≡ padded n others

@@ -1,14 +1,13 @@
 -- The calls that `run_calls` makes, one by one: laws that its code goes by. Assumes nothing.
 use mathlib.Core.Path.{◌≡◌, refl, sym, ap, ◌∙◌}
-use Prim.Native.Nat.{ℕ, zero, suc, ◌+◌, ◌*◌, ◌/◌, ◌≤◌, min}
-use native.Mathlib.Nat.{le_trans, min-le_left, min-le_right}
+use Prim.Native.Nat.{ℕ, zero, suc, ◌+◌, ◌*◌, ◌/◌, ◌≤◌, ◌<◌, min}
+use native.Mathlib.Nat.{min-le_right, min_comm}
+use Rattle.std.proofs.lemmas.List.{take_more, take_min, get_or-take, reverse-append, length-reverse, map-append, length-map, length-take}
 use native.Mathlib.Omega.{arith}
 use native.Mathlib.Numerals.{add-one}
 use mathlib.Core.List.{List, [], ◌∷◌, ◌++◌}
 use lib.ListN.{length, get_or, take, drop, replicate, length-replicate, replicate-append-replicate}
 use lib.IntN.{ℤ, pos}
-use lib.Ieee.{Float, nan}
-use borrow.Author.Tests.{eq-eqb, ne_eqb}
 use Rattle.dsp_types.specs.declared.ComplexSample.{ComplexSample}
 use Rattle.rx_slot.specs.declared.RxSlot.{RxSlot}
 use Rattle.slot_receiver.specs.declared.Mode.TheVariants.{DlUnsynchronized}
@@ -19,7 +18,8 @@ use Rattle.rx_slot.specs.Views.{padded}
 use Rattle.rx_slot.proofs.Laws.{padded_front}
 use Rattle.account.specs.CallList as CallList
 use Rattle.account.specs.CallList.{Call, sample, follow, outcome, after, answers, lent_after}
-use Rattle.account.specs.Runs.{row_length, lent_bytes, call_of, calls_of, fewest, room_in, calls_in, row_of, rows, bytes_of, bytes_of_all, Makes, Written, Ran}
+use Rattle.account.specs.declared.call.Call as Declared
+use Rattle.account.specs.Runs.{row_length, lent_bytes, call_of, room_in, calls_in, row_of, rows, bytes_of, bytes_of_all, Makes, Written, Ran}
 use Rattle.account.proofs.Demand.{demand3, throughout}
 use Rattle.account.proofs.Closings.{closings}
 use Rattle.account.proofs.Rows.{padded_none, padded_over, length_row, length_rows, length_bytes, length_all, behind}
@@ -88,23 +88,6 @@ made_row {r} {c = c} m = ap length m.tells ∙ length_row (in_numbers (outcome r
 pub made_bytes : {r r' : Receiver} {c : Call} {told lent : List ℕ} → Makes r c r' told lent → length lent ≡ 3072
 made_bytes {r} {c = c} m = ap length m.lends ∙ length_bytes (outcome r c).lent
 
--- the call of a kind
-pub made : {r r' : Receiver} {c c' : Call} {told lent : List ℕ} → Makes r c r' told lent → c ≡ c' → Makes r c' r' told lent
-made m e = rw (← e) m
-
-module _ (other : Receiver) (x : ComplexSample) (c : ℤ) (slot subslot1 subslot2 : ℕ) where
-  pub is_sample : (kind : ℕ) {z : ℤ} → kind ≡ 0 → z ≡ c → sample x z ≡ call_of other kind x c slot subslot1 subslot2
-  unfolding call_of
-  is_sample kind e t = rw (eq-eqb kind 0 e, t)
-
-  pub is_take : (kind : ℕ) → kind ≡ 1 → CallList.take (lent_bytes slot) (lent_bytes subslot1) (lent_bytes subslot2) ≡ call_of other kind x c slot subslot1 subslot2
-  unfolding call_of
-  is_take kind e = rw (eq-eqb kind 1 e, ne_eqb kind 0 (λ z. omega (arith, e, z)))
-
-  pub is_follow : (kind : ℕ) → (kind ≡ 0 → ⊥) → (kind ≡ 1 → ⊥) → follow other ≡ call_of other kind x c slot subslot1 subslot2
-  unfolding call_of
-  is_follow kind e f = rw (ne_eqb kind 0 e, ne_eqb kind 1 f)
-
 -- ---- a list of calls
 
 length_answers : (cs : List Call) → length (answers cs) ≡ length cs
@@ -159,70 +142,44 @@ ran cs {told = told} {lent = lent} w =
       keeps = throughout cs;
     }
 
--- slices of these lengths hold n calls, and there is room for them
-pub record Enough (kinds re im counters slot subslot1 subslot2 told lent n : ℕ) : Type 0 where
-  pub of_kinds : n ≤ kinds
-  pub of_re : n ≤ re
-  pub of_im : n ≤ im
-  pub of_counters : n ≤ counters
-  pub of_slot : n ≤ slot
-  pub of_subslot1 : n ≤ subslot1
-  pub of_subslot2 : n ≤ subslot2
+-- a slice holds n calls, and there is room for them
+pub record Enough (calls told lent n : ℕ) : Type 0 where
+  pub of_calls : n ≤ calls
   pub of_told : row_length * n ≤ told
   pub of_lent : 3072 * n ≤ lent
 
-pub counted : {n room held r h : ℕ} → n ≡ min r h → r ≡ room → h ≡ held → n ≡ min room held
-counted e p q = e ∙ rw (p, q)
+pub enough : (calls told lent n room : ℕ) → n ≡ min calls room → room ≡ room_in told lent → Enough calls told lent n
+unfolding room_in
+enough calls told lent n room p q =
+    let m : room ≡ min (told / row_length) (lent / 3072) = q in
+    record { of_calls = omega arith; of_told = omega arith; of_lent = omega arith }
 
-pub enough : (kinds re im counters slot subslot1 subslot2 told lent n : ℕ) → n ≡ min (room_in told lent) (fewest kinds re im counters slot subslot1 subslot2)
-    → Enough kinds re im counters slot subslot1 subslot2 told lent n
-unfolding fewest room_in
-enough a b c d e f g told lent n p =
-    let room : ℕ = min (told / row_length) (lent / 3072) in
-    let h0 : n ≤ min a (min b (min c (min d (min e (min f g))))) = rw p (min-le_right room (min a (min b (min c (min d (min e (min f g))))))) in
-    let r0 : n ≤ room = rw p (min-le_left room (min a (min b (min c (min d (min e (min f g))))))) in
-    let h1 = le_trans h0 (min-le_right a (min b (min c (min d (min e (min f g)))))) in
-    let h2 = le_trans h1 (min-le_right b (min c (min d (min e (min f g))))) in
-    let h3 = le_trans h2 (min-le_right c (min d (min e (min f g)))) in
-    let h4 = le_trans h3 (min-le_right d (min e (min f g))) in
-    let h5 = le_trans h4 (min-le_right e (min f g)) in
-    let r1 = le_trans r0 (min-le_left (told / row_length) (lent / 3072)) in
-    let r2 = le_trans r0 (min-le_right (told / row_length) (lent / 3072)) in
-    record {
-      of_kinds = le_trans h0 (min-le_left a _);
-      of_re = le_trans h1 (min-le_left b _);
-      of_im = le_trans h2 (min-le_left c _);
-      of_counters = le_trans h3 (min-le_left d _);
-      of_slot = le_trans h4 (min-le_left e _);
-      of_subslot1 = le_trans h5 (min-le_left f g);
-      of_subslot2 = le_trans h5 (min-le_right f g);
-      of_told = omega (arith, r1);
-      of_lent = omega (arith, r2);
-    }
+module _ (other : Receiver) (calls : List Declared.Call) where
+  length_calls : (n : ℕ) → n ≤ length calls → length (calls_in other calls n) ≡ n
+  unfolding calls_in
+  length_calls n h = simp (length-reverse, length-map, length-take) (omega arith)
 
-module _ (other : Receiver) (kinds : List ℕ) (re im : List Float) (counters : List ℤ) (slot subslot1 subslot2 : List ℕ) where
-  length_calls : (n : ℕ) → length (calls_of other kinds re im counters slot subslot1 subslot2 n) ≡ n
-  unfolding calls_of
-  length_calls zero = refl
-  length_calls (suc n) = ap suc (length_calls n)
+  next_call : (i : ℕ) (d : Declared.Call) → i < length calls → calls_in other calls (i + 1) ≡ call_of other (get_or calls i d) ∷ calls_in other calls i
+  unfolding calls_in
+  next_call i d h = rw (take_more calls i d h, map-append, reverse-append)
 
-  pub none_made : {r : Receiver} (told lent : List ℕ) → r ≡ new DlUnsynchronized → Written (calls_of other kinds re im counters slot subslot1 subslot2 0) r told told lent lent
-  unfolding calls_of
+  pub none_made : {r : Receiver} (told lent : List ℕ) → r ≡ new DlUnsynchronized → Written (calls_in other calls 0) r told told lent lent
+  unfolding calls_in
   none_made told lent e = rw e (none told lent)
 
-  pub one_more : {r r' : Receiver} {row bytes told₀ told told' lent₀ lent lent' : List ℕ} (i : ℕ) {z : ℤ}
-      → Written (calls_of other kinds re im counters slot subslot1 subslot2 i) r told₀ told lent₀ lent
-      → Makes r (call_of other (get_or kinds i 0) (record { re = get_or re i nan; im = get_or im i nan }) z (get_or slot i 0) (get_or subslot1 i 0) (get_or subslot2 i 0)) r' row bytes
-      → z ≡ get_or counters i (pos 0) → told' ≡ take (row_length * i) told ++ row ++ drop (row_length * i + length row) told
+  -- the call that a loop over the first n reads
+  pub one_more : {r r' : Receiver} {row bytes told₀ told told' lent₀ lent lent' : List ℕ} (i n : ℕ) (d : Declared.Call) → i < n → n ≤ length calls
+      → Written (calls_in other calls i) r told₀ told lent₀ lent → Makes r (call_of other (get_or (take n calls) i d)) r' row bytes
+      → told' ≡ take (row_length * i) told ++ row ++ drop (row_length * i + length row) told
       → lent' ≡ take (3072 * i) lent ++ bytes ++ drop (3072 * i + length bytes) lent
-      → Written (calls_of other kinds re im counters slot subslot1 subslot2 (i + 1)) r' told₀ told' lent₀ lent'
-  unfolding calls_of
-  one_more i w m e p q =
-      let n = length_calls i in
-      rw (add-one i) (more _ (calls_of other kinds re im counters slot subslot1 subslot2 i) w (rw e at m) (rw n p) (rw n q))
+      → Written (calls_in other calls (i + 1)) r' told₀ told' lent₀ lent'
+  one_more i n d h g w m p q =
+      let k = length_calls i (omega arith) in
+      let c : Call = call_of other (get_or calls i d) in
+      let m' = rw (get_or-take n calls i d h) at m in
+      rw (next_call i d (omega arith)) (more c (calls_in other calls i) w m' (rw k p) (rw k q))
 
-  pub all_made : {r : Receiver} {told told' lent lent' : List ℕ} (i n room : ℕ) → Written (calls_of other kinds re im counters slot subslot1 subslot2 i) r told told' lent lent' → i ≡ n
-      → n ≡ min room (fewest (length kinds) (length re) (length im) (length counters) (length slot) (length subslot1) (length subslot2))
-      → Ran (calls_in other kinds re im counters slot subslot1 subslot2 room) r told told' lent lent'
+  pub all_made : {r : Receiver} {told told' lent lent' : List ℕ} (i n room : ℕ) → Written (calls_in other calls i) r told told' lent lent' → i ≡ n
+      → n ≡ min (length calls) room → Ran (calls_in other calls room) r told told' lent lent'
   unfolding calls_in
-  all_made i n room w e f = ran _ (rw (← f, ← e) w)
+  all_made i n room w e f = ran _ (rw (e, f, min_comm (length calls) room, take_min room calls) at w)

@@ -1,14 +1,15 @@
 -- The calls that `run_calls` makes, and what it writes of each. Definitions only. Calls and answers stand THE LAST FIRST.
-use Rattle.std.specs.Prelude.{◌≡◌, ℕ, zero, suc, ◌*◌, ◌/◌, min, cond, List, [], ◌∷◌, ◌++◌, eqb, length, get_or, drop, replicate, ℤ, pos, Float}
-use Rattle.std.specs.Float.{nan}
+use Rattle.std.specs.Prelude.{◌≡◌, ℕ, ◌*◌, ◌/◌, min, cond, List, [], ◌∷◌, ◌++◌, map, reverse, length, get_or, drop, replicate, ℤ, pos}
+use Rattle.std.specs.Prelude as Prelude
 use Rattle.std.specs.Int.Signed.{lt_z, mag}
-use Rattle.dsp_types.specs.declared.ComplexSample.{ComplexSample}
 use Rattle.rx_slot.specs.declared.RxBurst.{RxBurst}
 use Rattle.rx_slot.specs.declared.RxSlot.{RxSlot}
 use Rattle.rx_slot.specs.Slots.{HandedSlot}
 use Rattle.slot_receiver.specs.Receiver.{Receiver}
 use Rattle.slot_receiver.specs.Calls.{Reply, refused, done, took, in_numbers}
 use Rattle.rx_slot.specs.Views.{padded}
+use Rattle.account.specs.declared.call.Call as Declared
+use Rattle.account.specs.declared.call.Call.TheVariants as Made
 use Rattle.account.specs.CallList.{Call, sample, take, follow, outcome, after, answers, lent_after}
 use Rattle.account.specs.Account.{Counted, expected_all, expected_lent, Throughout}
 use Rattle.account.specs.Closings.{Closings}
@@ -19,27 +20,15 @@ use Rattle.account.specs.Closings.{Closings}
 unfoldable pub lent_bytes : ℕ → List ℕ
 lent_bytes n = replicate (min n 1024) 7
 
--- the call of a kind: 0 a sample, 1 a take, any other an order to follow the other receiver
-unfoldable pub call_of : (other : Receiver) (kind : ℕ) → ComplexSample → ℤ → (slot subslot1 subslot2 : ℕ) → Call
-call_of other kind x c slot subslot1 subslot2 =
-    cond (eqb kind 0) (sample x c) (cond (eqb kind 1) (take (lent_bytes slot) (lent_bytes subslot1) (lent_bytes subslot2)) (follow other))
+-- a call of the code: a take lends sevens, and an order is to follow the other receiver
+unfoldable pub call_of : (other : Receiver) → Declared.Call → Call
+call_of other (Made.Sample x c) = sample x c.0
+call_of other (Made.Take slot subslot1 subslot2) = take (lent_bytes slot) (lent_bytes subslot1) (lent_bytes subslot2)
+call_of other Made.Follow = follow other
 
--- the first n calls that slices hold
-unfoldable pub calls_of : (other : Receiver) (kinds : List ℕ) (re im : List Float) (counters : List ℤ) (slot subslot1 subslot2 : List ℕ) → ℕ → List Call
-calls_of other kinds re im counters slot subslot1 subslot2 zero = []
-calls_of other kinds re im counters slot subslot1 subslot2 (suc n) =
-    call_of other (get_or kinds n 0) (record { re = get_or re n nan; im = get_or im n nan }) (get_or counters n (pos 0)) (get_or slot n 0) (get_or subslot1 n 0) (get_or subslot2 n 0)
-    ∷ calls_of other kinds re im counters slot subslot1 subslot2 n
-
--- how many calls slices of these lengths hold: as many as the shortest
-unfoldable pub fewest : (kinds re im counters slot subslot1 subslot2 : ℕ) → ℕ
-fewest kinds re im counters slot subslot1 subslot2 = min kinds (min re (min im (min counters (min slot (min subslot1 subslot2)))))
-
--- all the calls that slices hold, and that there is room for
-unfoldable pub calls_in : (other : Receiver) (kinds : List ℕ) (re im : List Float) (counters : List ℤ) (slot subslot1 subslot2 : List ℕ) (room : ℕ) → List Call
-calls_in other kinds re im counters slot subslot1 subslot2 room =
-    calls_of other kinds re im counters slot subslot1 subslot2
-    (min room (fewest (length kinds) (length re) (length im) (length counters) (length slot) (length subslot1) (length subslot2)))
+-- the calls that a slice holds, and that there is room for
+unfoldable pub calls_in : (other : Receiver) (calls : List Declared.Call) (room : ℕ) → List Call
+calls_in other calls room = reverse (map (call_of other) (Prelude.take room calls))
 
 -- ════ what is written of each: a row of numbers, and 3,072 lent bytes
 

@@ -1,31 +1,54 @@
 -- The receiver's calls from C: an answer by its number. Assumes nothing.
-use mathlib.Core.Path.{◌≡◌, refl}
-use mathlib.Core.List.{[]}
-use Prim.Native.Nat.{ℕ, zero, suc}
+use mathlib.Core.Path.{◌≡◌, refl, sym, ◌∙◌}
+use Prim.Native.Nat.{ℕ}
 use native.Mathlib.Omega.{arith}
-use Rattle.slot_receiver.specs.declared.TakeAnswer.{TakeAnswer}
-use Rattle.slot_receiver.specs.declared.Answer.{Answer}
-use Rattle.slot_receiver.specs.Receiver.{Receiver}
-use Rattle.slot_receiver.specs.Calls.{refused, unless, follow_refusal, followed, follow_outcome, reply_of, take_reply_of}
-use Rattle.modem.specs.Receive.{reply_number}
+use Rattle.std.specs.Prelude.{Result, Ok, Err, OnOk, OnErr}
+use Rattle.std.specs.Result.{result_unwrap_or}
+use Rattle.dsp_types.specs.declared.refusals.Refusal.{Refusal}
+use Rattle.dsp_types.specs.declared.refusals.Refusal.TheVariants.{BadSample, BadCounter, BadLength, BadBit, BadTraining, BadSlot, BadKind, PastCounter, NoSlot, NeedMoreData, NotFollowing}
+use Rattle.dsp_types.specs.Answers.{number_of, answer_number}
+use Rattle.rx_slot.specs.declared.RxSlot.{RxSlot}
+use Rattle.slot_receiver.specs.Calls.{Reply, reply_of, take_reply_of}
+use Rattle.rx_slot.specs.Slots.{HandedSlot}
+use Rattle.modem.specs.Receive.{reply_number, slot_taken, empty_slot}
 
--- an answer whose number is not 0 is a refusal, and one whose number is 0 is none
-pub by_refusal : {A : Type 0} (a : Answer) → (reply_number (reply_of a) ≡ 0 → ⊥) → ((n : ℕ) → a ≡ Answer.Refused n → A) → A
+-- an answer has the number that it tells
+pub answered : {n : ℕ} (a : Result (Unit {0}) Refusal) {reply : Reply HandedSlot} → n ≡ answer_number a → reply_of a ≡ reply → n ≡ reply_number reply
 unfolding reply_number reply_of
-by_refusal Answer.Accepted h f = absurd (h refl)
-by_refusal (Answer.Refused n) h f = f n refl
+answered (Ok x) e f = e ∙ rw (← f)
+answered (Err refusal) e f = e ∙ rw (← f)
 
-pub by_take_refusal : {A : Type 0} (a : TakeAnswer) → (reply_number (take_reply_of a) ≡ 0 → ⊥) → ((n : ℕ) → a ≡ TakeAnswer.Refused n → A) → A
+pub taken : {n : ℕ} (a : Result RxSlot Refusal) {reply : Reply RxSlot} → n ≡ answer_number a → take_reply_of a ≡ reply → n ≡ reply_number reply
 unfolding reply_number take_reply_of
-by_take_refusal (TakeAnswer.Slot s) h f = absurd (h refl)
-by_take_refusal (TakeAnswer.Refused n) h f = f n refl
+taken (Ok slot) e f = e ∙ rw (← f)
+taken (Err refusal) e f = e ∙ rw (← f)
 
--- an order to follow whose number is 0 was accepted
-pub followed_on : (r other : Receiver) (a : Answer) → reply_of a ≡ (follow_outcome r other).reply → reply_number (reply_of a) ≡ 0 → a ≡ Answer.Accepted
-unfolding follow_outcome unless followed reply_of reply_number
-followed_on r other Answer.Accepted e h = refl
-followed_on r other (Answer.Refused n) e h = go (follow_refusal r.mode) e
-  where
-    go : (k : ℕ) → refused n ≡ (unless k r [] (followed r other)).reply → Answer.Refused n ≡ Answer.Accepted
-    go zero f = absurd (let z : ◌≡◌ {A = ℕ} 0 1 = cc in omega arith)
-    go (suc k) f = let z : n ≡ suc k = cc in absurd (omega arith)
+-- the slot that was taken, or the empty one
+pub slot_or_empty : {slot none : RxSlot} (a : Result RxSlot Refusal) {reply : Reply RxSlot} → slot ≡ result_unwrap_or a none → none ≡ empty_slot → take_reply_of a ≡ reply
+    → slot ≡ slot_taken reply
+unfolding slot_taken take_reply_of
+slot_or_empty (Ok s) e z f = e ∙ rw (← f)
+slot_or_empty (Err refusal) e z f = e ∙ z ∙ rw (← f)
+
+-- none is refused with 0
+number_some : (refusal : Refusal) → number_of refusal ≡ 0 → ⊥
+number_some BadSample e = omega arith
+number_some BadCounter e = omega arith
+number_some BadLength e = omega arith
+number_some BadBit e = omega arith
+number_some BadTraining e = omega arith
+number_some BadSlot e = omega arith
+number_some BadKind e = omega arith
+number_some PastCounter e = omega arith
+number_some NoSlot e = omega arith
+number_some NeedMoreData e = omega arith
+number_some NotFollowing e = omega arith
+
+-- what holds at a refusal holds where the number is not 0, and what holds at an accepted call where it is 0
+pub refused_has : {T A : Type 0} {n : ℕ} (a : Result T Refusal) → n ≡ answer_number a → OnErr a A → (n ≡ 0 → ⊥) → A
+refused_has (Ok x) e h z = absurd (z e)
+refused_has (Err refusal) e h z = h
+
+pub accepted_has : {T A : Type 0} {n : ℕ} (a : Result T Refusal) → n ≡ answer_number a → OnOk a A → n ≡ 0 → A
+accepted_has (Ok x) e h z = h
+accepted_has (Err refusal) e h z = absurd (number_some refusal (sym e ∙ z))

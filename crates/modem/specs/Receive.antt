@@ -3,7 +3,7 @@ use Rattle.std.specs.Prelude.{Bool, true, false, ℕ, pos}
 use Rattle.dsp_types.specs.Refusals.{accepted}
 use Rattle.rx_slot.specs.declared.RxBurst.{RxBurst}
 use Rattle.rx_slot.specs.declared.RxSlot.{RxSlot}
-use Rattle.receiver.specs.declared.feed.Stop.{Stop}
+use Rattle.receiver.specs.Feed.{Stopped, at_end, at_slot, at_refusal}
 use Rattle.slot_receiver.specs.Calls.{Reply, refused, done, took}
 
 -- 01, "Refusals": the refusal's number, or 0
@@ -33,13 +33,13 @@ slot_taken done = empty_slot
 slot_taken (took s) = s
 
 -- 01, "The receiver": whether a block ended with a sample that handed a slot over
-abbrev pub hands_slot : Stop → Bool
-hands_slot Stop.End = false
-hands_slot Stop.Slot = true
-hands_slot (Stop.Refused n) = false
+abbrev pub hands_slot : Stopped → Bool
+hands_slot at_end = false
+hands_slot at_slot = true
+hands_slot (at_refusal n) = false
 
 -- 01, "Refusals": the number by which the next sample is refused, or 0
-abbrev pub stop_refusal : Stop → ℕ
-stop_refusal Stop.End = accepted
-stop_refusal Stop.Slot = accepted
-stop_refusal (Stop.Refused n) = n
+abbrev pub stop_refusal : Stopped → ℕ
+stop_refusal at_end = accepted
+stop_refusal at_slot = accepted
+stop_refusal (at_refusal n) = n

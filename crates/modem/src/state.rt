@@ -1,18 +1,18 @@
-// The receiver: its state goes in by value and the next one comes back, and its past is lent. The header's calls on a
-// receiver in the caller's memory are these.
+// The receiver. C passes its state by value and gets the next one back, and lends its past. The header's calls on a receiver in the
+// caller's memory are these.
 ghost use Rattle.std.specs.Prelude.{◌≡◌, List, [], ◌∷◌, replicate, Float};
 ghost use Rattle.dsp_types.specs.Samples.{zero_f};
 ghost use Rattle.slot_receiver.specs.Receiver.{new};
-ghost use Rattle.slot_receiver.specs.Calls.{sample_outcome, take_outcome, follow_outcome, reply_of, take_reply_of, in_numbers};
-ghost use Rattle.receiver.specs.Feed.{interleaved, feed_of};
+ghost use Rattle.slot_receiver.specs.Calls.{sample_outcome, take_outcome, follow_outcome, in_numbers};
+ghost use Rattle.receiver.specs.Feed.{interleaved, stopped, feed_of};
 ghost use Rattle.slot_receiver.specs.View.{mode_of, mode_number, mode_following};
 ghost use Rattle.receiver.specs.View.{receiver_of, Untouched};
 ghost use Rattle.modem.specs.Receive.{reply_number, slot_taken, empty_slot, hands_slot, stop_refusal};
 
-use dsp_types::{ACCEPTED, ComplexSample, SampleCount, TdmaTime};
+use dsp_types::{ComplexSample, SampleCount, TdmaTime, answer_number};
 use receiver::{State, Stop};
 use rx_slot::{RxBurst, RxSlot};
-use slot_receiver::{Answer, Mode, TakeAnswer};
+use slot_receiver::Mode;
 
 // 0 or the refusal's number, and the next state.
 #[repr(C)]
@@ -54,26 +54,6 @@ fn mode_of(number: u32) -> Mode
     }
 }
 
-#[tactic(auto, unfolding(crate::specs::Receive::reply_number, slot_receiver::specs::Calls::reply_of))]
-fn answer_number(answer: Answer) -> u32
-    ensures { result ≡ reply_number (reply_of answer) }
-{
-    match answer {
-        Answer::Accepted => ACCEPTED,
-        Answer::Refused(number) => number,
-    }
-}
-
-#[tactic(auto, unfolding(crate::specs::Receive::reply_number, slot_receiver::specs::Calls::take_reply_of))]
-fn take_number(answer: TakeAnswer) -> u32
-    ensures { result ≡ reply_number (take_reply_of answer) }
-{
-    match answer {
-        TakeAnswer::Slot(_) => ACCEPTED,
-        TakeAnswer::Refused(number) => number,
-    }
-}
-
 // A refusal's slot is all zeros.
 fn empty_slot() -> RxSlot
     ensures { result ≡ empty_slot }
@@ -93,33 +73,16 @@ fn empty_slot() -> RxSlot
     }
 }
 
-#[tactic(auto, unfolding(crate::specs::Receive::slot_taken, slot_receiver::specs::Calls::take_reply_of))]
-fn take_slot(answer: TakeAnswer) -> RxSlot
-    ensures { result ≡ slot_taken (take_reply_of answer) }
-{
-    match answer {
-        TakeAnswer::Slot(slot) => slot,
-        TakeAnswer::Refused(_) => empty_slot(),
-    }
-}
-
-fn hands_slot(stop: Stop) -> bool
-    ensures { result ≡ hands_slot stop }
+// Whether the last sample handed a slot over, and the refusal of the next, or 0.
+#[tactic(auto, unfolding(receiver::specs::Feed::stopped))]
+fn told(stop: Stop) -> (bool, u32)
+    ensures slot { result.0 ≡ hands_slot (stopped stop) }
+    ensures refusal { result.1 ≡ stop_refusal (stopped stop) }
 {
     match stop {
-        Stop::End => false,
-        Stop::Slot => true,
-        Stop::Refused(_) => false,
-    }
-}
-
-fn stop_refusal(stop: Stop) -> u32
-    ensures { result ≡ stop_refusal stop }
-{
-    match stop {
-        Stop::End => ACCEPTED,
-        Stop::Slot => ACCEPTED,
-        Stop::Refused(number) => number,
+        Stop::End => (false, 0),
+        Stop::Slot => (true, 0),
+        Stop::Refused(refusal) => (false, refusal.number()),
     }
 }
 
@@ -136,7 +99,7 @@ pub extern "C" fn tetra_state_new(mode: u32) -> State
 // Takes one sample, or refuses it and leaves state and past as they are.
 #[unsafe(no_mangle)]
 pub extern "C" fn tetra_state_sample(
-    state: State,
+    mut state: State,
     past_re: &mut [f32; 2048],
     past_im: &mut [f32; 2048],
     past_abs: &mut [f32; 2048],
@@ -150,11 +113,9 @@ pub extern "C" fn tetra_state_sample(
 {
     let input = ComplexSample { re, im };
     let sampled = state.sample(past_re, past_im, past_abs, input, SampleCount(counter));
-    let answer = sampled.answer;
-    let next = sampled.state;
     TetraAnswered {
-        refusal: answer_number(answer),
-        state: next,
+        refusal: answer_number(&sampled),
+        state,
     }
 }
 
@@ -162,7 +123,7 @@ pub extern "C" fn tetra_state_sample(
 // refused, which is not taken. Where none is taken, state and past stay as they are.
 #[unsafe(no_mangle)]
 pub extern "C" fn tetra_state_feed(
-    state: State,
+    mut state: State,
     past_re: &mut [f32; 2048],
     past_im: &mut [f32; 2048],
     past_abs: &mut [f32; 2048],
@@ -176,13 +137,12 @@ pub extern "C" fn tetra_state_feed(
     ensures refused { result.taken ≡ 0 → Untouched state result.state past_re.old past_re.new past_im.old past_im.new past_abs.old past_abs.new }
 {
     let fed = state.feed(past_re, past_im, past_abs, samples, SampleCount(first));
-    let stop = fed.stop;
-    let next = fed.state;
+    let (slot, refusal) = told(fed.stop);
     TetraFed {
         taken: fed.taken,
-        slot: hands_slot(stop),
-        refusal: stop_refusal(stop),
-        state: next,
+        slot,
+        refusal,
+        state,
     }
 }
 
@@ -190,7 +150,7 @@ pub extern "C" fn tetra_state_feed(
 // has no part in it.
 #[unsafe(no_mangle)]
 pub extern "C" fn tetra_state_take(
-    state: State,
+    mut state: State,
     slot: &mut [u8],
     subslot1: &mut [u8],
     subslot2: &mut [u8],
@@ -202,28 +162,24 @@ pub extern "C" fn tetra_state_take(
     ensures refused { (result.refusal ≡ 0 → ⊥) → result.state ≡ state }
 {
     let taken = state.take_demodulated_slot(slot, subslot1, subslot2);
-    let next = taken.state;
-    let answer = taken.answer;
     TetraTaken {
-        refusal: take_number(answer),
-        slot: take_slot(answer),
-        state: next,
+        refusal: answer_number(&taken),
+        slot: taken.unwrap_or(empty_slot()),
+        state,
     }
 }
 
 // Takes the slot timing of another receiver. A receiver that finds its own is refused. The past has no part in it.
 #[unsafe(no_mangle)]
-pub extern "C" fn tetra_state_follow(state: State, other: State) -> TetraAnswered
+pub extern "C" fn tetra_state_follow(mut state: State, other: State) -> TetraAnswered
     ensures refusal { (re im abs re₂ im₂ abs₂ : List Float) → result.refusal ≡ reply_number (follow_outcome (receiver_of state re im abs) (receiver_of other re₂ im₂ abs₂)).reply }
     ensures receiver { (re im abs re₂ im₂ abs₂ : List Float) → receiver_of result.state re im abs ≡ (follow_outcome (receiver_of state re im abs) (receiver_of other re₂ im₂ abs₂)).receiver }
     ensures mode { result.refusal ≡ 0 → result.state.slots.mode ≡ mode_following (mode_of other.slots.mode) state.slots.mode }
     ensures refused { (result.refusal ≡ 0 → ⊥) → result.state ≡ state }
 {
-    let followed = state.sync_to_demodulator(other);
-    let answer = followed.answer;
-    let next = followed.state;
+    let followed = state.sync_to_demodulator(&other);
     TetraAnswered {
-        refusal: answer_number(answer),
-        state: next,
+        refusal: answer_number(&followed),
+        state,
     }
 }

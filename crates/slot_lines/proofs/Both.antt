@@ -1,7 +1,7 @@
 -- A step of both links prints the first of what both print, and what is left prints the rest. Assumes nothing.
 use Prim.Native.Nat.{ℕ, zero, suc, ◌+◌, ◌*◌, ◌-◌, ◌/◌, ◌<◌, ◌≤◌, min}
 use mathlib.Core.Path.{◌≡◌, refl, sym, ap, ◌∙◌}
-use mathlib.Core.Bool.{Bool, true, false, cond}
+use mathlib.Core.Bool.{Bool, true, false, cond, not}
 use mathlib.Core.List.{List, [], ◌∷◌, ◌++◌, append_assoc, append-nil}
 use native.Mathlib.Omega.{arith}
 use lib.IntN.{ℤ, pos, ◌+ℤ◌}
@@ -22,11 +22,10 @@ use Rattle.slot_receiver.specs.View.{mode_of}
 use Rattle.receiver.specs.Feed.{interleaved, feed_of}
 use Rattle.slot_text.specs.declared.Form.{Form}
 use Rattle.slot_text.specs.declared.Style.{Style}
-use Rattle.slot_lines.specs.Blocks.{hear_one, Step, stretch_of, stretch_by, mended_by, step_of}
+use Rattle.slot_lines.specs.Blocks.{line_of, hear_one, Step, stretch_of, stretch_by, mended_by, step_of}
 use Rattle.slot_lines.specs.Links.{is_uplink, down_style, up_style, follow_if, begins_if, still_begins, shown_of, UpPrinted, up_printed, both_printed, Both, rest_printed, BothStep, lead_step, catch_up_step, step_by, both_step, both_of, both_made}
 use Rattle.slot_lines.specs.declared.links.Links.{Links}
 use Rattle.slot_lines.specs.declared.links.LinksHeard.{LinksHeard}
-use Rattle.text.specs.Text.{text_of}
 use Rattle.slot_lines.proofs.Steps.{counts, counts_none, First, on, ends, first, step_goes, samples_count}
 
 counts_both : (c : ℤ) (t n : ℕ) → t ≤ n → (c +ℤ pos t) +ℤ pos (n - t) ≡ c +ℤ pos n
@@ -165,21 +164,25 @@ catches_up form has_bits b xs ys c e = go b.behind e
     go (suc n) e = refl
 
 -- of what is stored, and made of it by a step of either link
-module _ (form : Form) (has_bits : Bool) (l : Links) (re im abs up_re up_im up_abs : List Float) (xs ys : List ComplexSample) (c : ℤ) (h : LinksHeard) (re₁ im₁ abs₁ up_re₁ up_im₁ up_abs₁ : List Float) where
+module _ (form : Form) (has_bits : Bool) (l : Links) (re im abs up_re up_im up_abs : List Float) (xs ys : List ComplexSample) (c : ℤ) (h : LinksHeard) (m : Links) (re₁ im₁ abs₁ up_re₁ up_im₁ up_abs₁ : List Float) where
   abbrev Hears : Type 0
   Hears =
-      (both_made h re₁ im₁ abs₁ up_re₁ up_im₁ up_abs₁ ≡ both_step form has_bits (both_of l re im abs up_re up_im up_abs) xs ys c)
+      (both_made h m re₁ im₁ abs₁ up_re₁ up_im₁ up_abs₁ ≡ both_step form has_bits (both_of l re im abs up_re up_im up_abs) xs ys c)
       × (length xs ≡ length ys
       → rest_printed form has_bits (both_of l re im abs up_re up_im up_abs) xs ys c
-      ≡ text_of h.line ++ rest_printed form has_bits (both_of h.links re₁ im₁ abs₁ up_re₁ up_im₁ up_abs₁) (drop h.taken xs) (drop h.taken ys) (c +ℤ pos h.taken))
+      ≡ line_of h.line ++ rest_printed form has_bits (both_of m re₁ im₁ abs₁ up_re₁ up_im₁ up_abs₁) (drop h.taken xs) (drop h.taken ys) (c +ℤ pos h.taken))
 
-  pub lead_hears : l.behind ≡ 0 → both_made h re₁ im₁ abs₁ up_re₁ up_im₁ up_abs₁ ≡ lead_step form has_bits (both_of l re im abs up_re up_im up_abs) xs c → Hears
+  pub lead_hears : l.behind ≡ 0 → both_made h m re₁ im₁ abs₁ up_re₁ up_im₁ up_abs₁ ≡ lead_step form has_bits (both_of l re im abs up_re up_im up_abs) xs c → Hears
   unfolding both_of both_made
   lead_hears z e = both_hears form has_bits (both_of l re im abs up_re up_im up_abs) xs ys c (e ∙ leads form has_bits (both_of l re im abs up_re up_im up_abs) xs ys c z)
 
-  pub catch_up_hears : (l.behind ≡ 0 → ⊥) → both_made h re₁ im₁ abs₁ up_re₁ up_im₁ up_abs₁ ≡ catch_up_step form has_bits (both_of l re im abs up_re up_im up_abs) ys c → Hears
+  pub catch_up_hears : (l.behind ≡ 0 → ⊥) → both_made h m re₁ im₁ abs₁ up_re₁ up_im₁ up_abs₁ ≡ catch_up_step form has_bits (both_of l re im abs up_re up_im up_abs) ys c → Hears
   unfolding both_of both_made
   catch_up_hears z e = both_hears form has_bits (both_of l re im abs up_re up_im up_abs) xs ys c (e ∙ catches_up form has_bits (both_of l re im abs up_re up_im up_abs) xs ys c z)
+
+pub none_lem : (b : Bool) (x : Bool) → x ≡ not b → b ≡ not x
+none_lem true x e = rw e
+none_lem false x e = rw e
 
 -- what is made of a step of one link
 pub led_made : (form : Form) (has_bits : Bool) (b : Both) (xs : List ComplexSample) (c : ℤ) {s : Step} {u : Receiver} {g : Bool} → s ≡ step_of (down_style form has_bits) b.down xs c
@@ -199,20 +202,3 @@ caught_made form has_bits b ys c f e l g = rw (l, g, e, f)
 -- no more of the first n samples are done with than there are
 pub few_taken : (n : ℕ) (parts few : List Float) {t : ℕ} → interleaved few ≡ take n (interleaved parts) → t ≤ length few / 2 → t ≤ n
 few_taken n parts few e h = omega (arith, samples_count few, ap (λ (l : List ComplexSample). length l) e, length-take n (interleaved parts))
-
--- the number that is stored for an uplink receiver's mode
-pub uplink_number_lem : (n : ℕ) → is_uplink (mode_of n) ≡ eqb n 3
-unfolding mode_of is_uplink
-uplink_number_lem n = go (eqb n 1) refl (eqb n 2) refl
-  where
-    other : (k : ℕ) → eqb n k ≡ true → (k ≡ 3 → ⊥) → false ≡ eqb n 3
-    other k e h = sym (ne_eqb n 3 (λ f. h (sym (eqb-true n k e) ∙ f)))
-
-    last : (c : Bool) → is_uplink (cond c Ul Idle) ≡ c
-    last true = refl
-    last false = refl
-
-    go : (a : Bool) → eqb n 1 ≡ a → (b : Bool) → eqb n 2 ≡ b → is_uplink (cond a DlUnsynchronized (cond b Dl (cond (eqb n 3) Ul Idle))) ≡ eqb n 3
-    go true e b f = other 1 e (λ p. omega arith)
-    go false e true f = other 2 f (λ p. omega arith)
-    go false e false f = last (eqb n 3)

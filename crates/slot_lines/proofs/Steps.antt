@@ -12,20 +12,45 @@ use lib.IntN.{ℤ, pos, negsuc, ◌+ℤ◌}
 use lib.ListN.{length}
 use lib.Signed.{lt_z}
 use lib.Ieee.{Float}
+use Rattle.std.specs.Prelude.{Option, None, Some, is_some}
+use Rattle.dsp_types.specs.declared.refusals.Refusal.{Refusal}
+use Rattle.dsp_types.specs.declared.refusals.Refusal.TheVariants.{BadSample, BadCounter, BadLength, BadBit, BadTraining, BadSlot, BadKind, PastCounter, NoSlot, NeedMoreData, NotFollowing}
+use Rattle.dsp_types.specs.Answers.{number_of}
 use Rattle.dsp_types.specs.declared.ComplexSample.{ComplexSample}
 use Rattle.dsp_types.specs.Samples.{silence}
 use Rattle.dsp_types.specs.Refusals.{accepted, last_counter, bad_counter, past_counter, beyond, out_of_count}
 use Rattle.dsp_types.specs.Times.{fitted}
 use Rattle.dsp_types.proofs.IntLaws.{sum, same}
 use Rattle.dsp_types.proofs.RingLaws.{le_or_lt}
-use Rattle.receiver.specs.declared.feed.Stop.{Stop}
-use Rattle.receiver.specs.declared.feed.Stop.TheVariants.{End, Slot, Refused}
 use Rattle.slot_receiver.specs.Receiver.{Receiver, accept, valid_count}
 use Rattle.slot_receiver.specs.Windows.{hands_over, accept_windows}
 use Rattle.slot_receiver.specs.Calls.{refused, Outcome, unless, sample_refusal, sampled, sample_outcome}
-use Rattle.receiver.specs.Feed.{interleaved, Block, fed_one, fed_by, feed_of}
+use Rattle.receiver.specs.Feed.{interleaved, Stopped, at_end, at_slot, at_refusal, Block, fed_one, fed_by, feed_of}
 use Rattle.slot_text.specs.declared.Style.{Style}
-use Rattle.slot_lines.specs.Blocks.{take_next, taken_if, taken_line, mended, Printed, printed_one, hear_one, before, printed, Step, stretch_by, stretch_of, mended_by, step_of, from_step}
+use Rattle.slot_lines.specs.Blocks.{refused_with, take_next, taken_if, taken_line, mended, Printed, printed_one, hear_one, before, printed, Step, stretch_by, stretch_of, mended_by, step_of, from_step}
+
+-- ---- whether a sample was refused
+
+pub not_refused : (r : Option Refusal) → is_some r ≡ false → refused_with r ≡ 0
+not_refused None e = refl
+not_refused (Some refusal) e = cc
+
+pub is_refused : (r : Option Refusal) → is_some r ≡ true → refused_with r ≡ 0 → ⊥
+is_refused None e = cc
+is_refused (Some refusal) e = numbered refusal
+  where
+    numbered : (refusal : Refusal) → number_of refusal ≡ 0 → ⊥
+    numbered BadSample f = omega arith
+    numbered BadCounter f = omega arith
+    numbered BadLength f = omega arith
+    numbered BadBit f = omega arith
+    numbered BadTraining f = omega arith
+    numbered BadSlot f = omega arith
+    numbered BadKind f = omega arith
+    numbered PastCounter f = omega arith
+    numbered NoSlot f = omega arith
+    numbered NeedMoreData f = omega arith
+    numbered NotFollowing f = omega arith
 
 -- ---- a zero in the place of a refused sample
 
@@ -92,19 +117,19 @@ module _ (style : Style) where
     on : (after : Receiver) → hear_one style r x c ≡ silent after → step_of style r (x ∷ xs) c ≡ one_more (step_of style after xs (c +ℤ pos 1)) → First r x xs c
     ends : (n : ℕ) → step_of style r (x ∷ xs) c ≡ record { taken = 1; refusal = n; heard = hear_one style r x c } → First r x xs c
 
-  step_later : (n : ℕ) (stop : Stop) (r : Receiver) (c : ℤ)
+  step_later : (n : ℕ) (stop : Stopped) (r : Receiver) (c : ℤ)
       → step_fed (record { taken = suc n; stop = stop; receiver = r }) c ≡ one_more (step_fed (record { taken = n; stop = stop; receiver = r }) (c +ℤ pos 1))
   unfolding stretch_by mended_by
-  step_later n End r c = refl
-  step_later n Slot r c = refl
-  step_later n (Refused zero) r c = refl
-  step_later n (Refused (suc m)) r c = rw (counts c n)
+  step_later n at_end r c = refl
+  step_later n at_slot r c = refl
+  step_later n (at_refusal zero) r c = refl
+  step_later n (at_refusal (suc m)) r c = rw (counts c n)
 
   -- a row of one sample that came to this outcome
   abbrev row_of_one : Receiver → Outcome → Block
-  row_of_one r o = fed_by o.reply r (fed_one (hands_over o.windows) o.receiver (record { taken = 0; stop = End; receiver = o.receiver }))
+  row_of_one r o = fed_by o.reply r (fed_one (hands_over o.windows) o.receiver (record { taken = 0; stop = at_end; receiver = o.receiver }))
 
-  by_slot : (after : Receiver) (b : Bool) → let f = fed_one b after (record { taken = 0; stop = End; receiver = after }) in let t = taken_if b after in
+  by_slot : (after : Receiver) (b : Bool) → let f = fed_one b after (record { taken = 0; stop = at_end; receiver = after }) in let t = taken_if b after in
       (stretch_by style f.taken f.stop f.receiver).heard ≡ record { lines = taken_line style t.reply; slot = b; receiver = t.receiver }
   unfolding fed_one stretch_by taken_if taken_line
   by_slot after true = refl
@@ -126,7 +151,7 @@ module _ (style : Style) where
     unfolding feed_of sample_outcome sampled unless fed_by
     fed_kept e = rw e
 
-    fed_lost : (n : ℕ) → refusal r x c ≡ suc n → feed_of r (x ∷ xs) c ≡ record { taken = 0; stop = Refused (suc n); receiver = r }
+    fed_lost : (n : ℕ) → refusal r x c ≡ suc n → feed_of r (x ∷ xs) c ≡ record { taken = 0; stop = at_refusal (suc n); receiver = r }
     unfolding feed_of sample_outcome sampled unless fed_by
     fed_lost n e = rw e
 
@@ -200,18 +225,15 @@ module _ (style : Style) where
 
   module _ (r : Receiver) (xs : List ComplexSample) (c : ℤ) where
     -- by why the feed took no more
-    module _ {n t f : ℕ} {stop : Stop} {after w : Receiver} {l : List ℕ} {b : Bool} (e : n ≡ (feed_of r xs c).taken) (s : stop ≡ (feed_of r xs c).stop) (a : after ≡ (feed_of r xs c).receiver) (k : t ≡ n) where
-      pub at_end : stop ≡ End → f ≡ 0 → b ≡ false → l ≡ [] → w ≡ after → record { taken = t; refusal = f; heard = record { lines = l; slot = b; receiver = w } } ≡ stretch_of style r xs c
-      unfolding stretch_of stretch_by
-      at_end g f₀ b₀ l₀ w₀ = rw (k, f₀, b₀, l₀, w₀, e, a, ← s, g)
+    module _ {n : ℕ} {stop : Stopped} {after : Receiver} (e : n ≡ (feed_of r xs c).taken) (s : stop ≡ (feed_of r xs c).stop) (a : after ≡ (feed_of r xs c).receiver) where
+      pub fed_made : stretch_by style n stop after ≡ stretch_of style r xs c
+      unfolding stretch_of
+      fed_made = rw (e, s, a)
 
-      pub at_refused : (m : ℕ) → stop ≡ Refused m → f ≡ m → b ≡ false → l ≡ [] → w ≡ after → record { taken = t; refusal = f; heard = record { lines = l; slot = b; receiver = w } } ≡ stretch_of style r xs c
-      unfolding stretch_of stretch_by
-      at_refused m g f₀ b₀ l₀ w₀ = rw (k, f₀, b₀, l₀, w₀, e, a, ← s, g)
-
-      pub at_slot : stop ≡ Slot → f ≡ 0 → b ≡ true → l ≡ taken_line style (take_next after).reply → w ≡ (take_next after).receiver → record { taken = t; refusal = f; heard = record { lines = l; slot = b; receiver = w } } ≡ stretch_of style r xs c
-      unfolding stretch_of stretch_by
-      at_slot g f₀ b₀ l₀ w₀ = rw (k, f₀, b₀, l₀, w₀, e, a, ← s, g)
+      pub slot_made : {l : List ℕ} {w : Receiver} → stop ≡ at_slot → l ≡ taken_line style (take_next after).reply → w ≡ (take_next after).receiver
+          → record { taken = n; refusal = 0; heard = record { lines = l; slot = true; receiver = w } } ≡ stretch_of style r xs c
+      unfolding stretch_by
+      slot_made z f g = rw (f, g) (rw z at fed_made)
 
     -- by whether the next sample is refused
     pub not_mended : {s : Step} → s ≡ stretch_of style r xs c → s.refusal ≡ 0 → s ≡ step_of style r xs c

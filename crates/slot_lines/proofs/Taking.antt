@@ -14,7 +14,9 @@ use Rattle.burst_finder.specs.Slots.{get_burst}
 use Rattle.rx_slot.specs.declared.RxBurst.{RxBurst}
 use Rattle.rx_slot.specs.declared.RxSlot.{RxSlot}
 use Rattle.receiver.specs.declared.State.{State}
-use Rattle.slot_receiver.specs.declared.TakeAnswer.{TakeAnswer}
+use Rattle.std.specs.Prelude.{Result, Ok, Err}
+use Rattle.dsp_types.specs.declared.refusals.Refusal.{Refusal}
+use Rattle.dsp_types.specs.Answers.{number_of}
 use Rattle.rx_slot.specs.Views.{BurstView, no_view, is_found, valid_view, stored_view, padded, burst_shown}
 use Rattle.rx_slot.proofs.Laws.{padded_front}
 use Rattle.rx_slot.specs.Slots.{HandedSlot, with_views, valid_slot, filled, shown}
@@ -84,19 +86,19 @@ module _ (style : Style) where
 
   -- what a take told and lent makes the line
   module _ (s : State) (re im abs : List Float) where
-    pub slot_told : {t : List ℕ} (answer : TakeAnswer) (told : RxSlot) (bytes bytes₁ bytes₂ : List ℕ)
-        → let o = take_next (receiver_of s re im abs) in take_reply_of answer ≡ in_numbers o.reply → bytes ∷ bytes₁ ∷ bytes₂ ∷ [] ≡ o.lent → answer ≡ TakeAnswer.Slot told
+    pub slot_told : {t : List ℕ} (answer : Result RxSlot Refusal) (told : RxSlot) (bytes bytes₁ bytes₂ : List ℕ)
+        → let o = take_next (receiver_of s re im abs) in take_reply_of answer ≡ in_numbers o.reply → bytes ∷ bytes₁ ∷ bytes₂ ∷ [] ≡ o.lent → answer ≡ Ok told
         → t ≡ line_of told bytes bytes₁ bytes₂ → t ≡ taken_line style o.reply
     unfolding take_next take_outcome take_reply_of
     slot_told answer told bytes bytes₁ bytes₂ e f a g =
         g ∙ told_line _ (receiver_of s re im abs) (valid_slot (receiver_of s re im abs).slot) _ told bytes bytes₁ bytes₂ (few_bits s re im abs) (sym (ap take_reply_of a) ∙ e) f
 
-    pub nothing_told : {t : List ℕ} (answer : TakeAnswer) (n : ℕ)
-        → let o = take_next (receiver_of s re im abs) in take_reply_of answer ≡ in_numbers o.reply → answer ≡ TakeAnswer.Refused n → t ≡ [] → t ≡ taken_line style o.reply
+    pub nothing_told : {t : List ℕ} (answer : Result RxSlot Refusal) (n : Refusal)
+        → let o = take_next (receiver_of s re im abs) in take_reply_of answer ≡ in_numbers o.reply → answer ≡ Err n → t ≡ [] → t ≡ taken_line style o.reply
     unfolding take_reply_of in_numbers taken_line
     nothing_told answer n e a g = g ∙ none (take_next (receiver_of s re im abs)).reply (sym (ap take_reply_of a) ∙ e)
       where
-        none : (reply : Reply HandedSlot) → refused n ≡ in_numbers reply → [] ≡ taken_line style reply
+        none : (reply : Reply HandedSlot) → refused (number_of n) ≡ in_numbers reply → [] ≡ taken_line style reply
         none (refused m) e = refl
         none done e = refl
         none (took h) e = absurd (let z : ◌≡◌ {A = ℕ} 0 1 = cc in omega arith)

@@ -1,16 +1,16 @@
 -- What samples print: each slot that they hand over is taken at once, and its line printed. Definitions only.
-use Rattle.std.specs.Prelude.{ℕ, zero, suc, Bool, true, false, cond, ◌||◌, List, [], ◌∷◌, ◌++◌, replicate, drop, ℤ, pos, ◌+ℤ◌, Float}
+use Rattle.std.specs.Prelude.{ℕ, zero, suc, Bool, true, false, cond, ◌||◌, List, [], ◌∷◌, ◌++◌, replicate, drop, ℤ, pos, ◌+ℤ◌, Option, None, Some, is_some}
 use Rattle.dsp_types.specs.declared.ComplexSample.{ComplexSample}
 use Rattle.dsp_types.specs.Refusals.{accepted, beyond}
 use Rattle.dsp_types.specs.Samples.{silence}
-use Rattle.receiver.specs.declared.feed.Stop.{Stop}
-use Rattle.receiver.specs.declared.feed.Stop.TheVariants.{End, Slot, Refused}
+use Rattle.dsp_types.specs.declared.refusals.Refusal.{Refusal}
+use Rattle.dsp_types.specs.Answers.{number_of}
 use Rattle.rx_slot.specs.Slots.{HandedSlot}
 use Rattle.slot_receiver.specs.Receiver.{Receiver}
 use Rattle.slot_receiver.specs.Windows.{hands_over}
 use Rattle.slot_receiver.specs.Calls.{Reply, refused, done, took, Outcome, sample_outcome, take_outcome}
-use Rattle.receiver.specs.Feed.{feed_of}
-use Rattle.receiver.specs.View.{receiver_of}
+use Rattle.receiver.specs.Feed.{Stopped, at_end, at_slot, at_refusal, feed_of}
+use Rattle.text.specs.declared.Text.{Text}
 use Rattle.text.specs.Text.{text_of}
 use Rattle.slot_text.specs.Lines.{slot_line}
 use Rattle.slot_text.specs.declared.Style.{Style}
@@ -68,10 +68,10 @@ pub record Step : Type 0 where
   pub heard : Printed
 
 -- a row of samples that was fed, by why no more were taken
-unfoldable pub stretch_by : Style → ℕ → Stop → Receiver → Step
-stretch_by style n End r = record { taken = n; refusal = accepted; heard = record { lines = []; slot = false; receiver = r } }
-stretch_by style n Slot r = let t = take_next r in record { taken = n; refusal = accepted; heard = record { lines = taken_line style t.reply; slot = true; receiver = t.receiver } }
-stretch_by style n (Refused m) r = record { taken = n; refusal = m; heard = record { lines = []; slot = false; receiver = r } }
+unfoldable pub stretch_by : Style → ℕ → Stopped → Receiver → Step
+stretch_by style n at_end r = record { taken = n; refusal = accepted; heard = record { lines = []; slot = false; receiver = r } }
+stretch_by style n at_slot r = let t = take_next r in record { taken = n; refusal = accepted; heard = record { lines = taken_line style t.reply; slot = true; receiver = t.receiver } }
+stretch_by style n (at_refusal m) r = record { taken = n; refusal = m; heard = record { lines = []; slot = false; receiver = r } }
 
 unfoldable pub stretch_of : Style → Receiver → List ComplexSample → ℤ → Step
 stretch_of style r xs c = let fed = feed_of r xs c in stretch_by style fed.taken fed.stop fed.receiver
@@ -88,6 +88,18 @@ step_of style r xs c = let s = stretch_of style r xs c in mended_by style s.refu
 unfoldable pub from_step : Style → Step → List ComplexSample → ℤ → Printed
 from_step style s xs c = before s.heard.lines (printed style s.heard.receiver (drop s.taken xs) (c +ℤ pos s.taken))
 
--- the step that was made, with the rings of the receiver's past
-unfoldable pub step_made : Heard → (re im abs : List Float) → Step
-step_made h re im abs = record { taken = h.taken; refusal = h.refusal; heard = record { lines = text_of h.line; slot = h.slot; receiver = receiver_of h.state re im abs } }
+-- ---- as it is told: a refusal and a line are there or not
+
+-- 01's number of a refusal, 0 where there is none
+abbrev pub refused_with : Option Refusal → ℕ
+refused_with None = accepted
+refused_with (Some refusal) = number_of refusal
+
+-- a line's bytes, none where there is none
+abbrev pub line_of : Option Text → List ℕ
+line_of None = []
+line_of (Some line) = text_of line
+
+-- the step that was made, with the receiver after it
+unfoldable pub step_made : Heard → Receiver → Step
+step_made h r = record { taken = h.taken; refusal = refused_with h.refusal; heard = record { lines = line_of h.line; slot = is_some h.line; receiver = r } }

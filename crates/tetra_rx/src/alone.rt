@@ -16,60 +16,46 @@ struct Downlink {
     tally: Tally,
 }
 
-// What a step from that counter on came to: the receiver's mode, a refused sample, a slot's line.
-fn told<H: Host>(rt: &H, tally: Tally, heard: Heard, first: u64) -> Tally {
-    let last = first.wrapping_add(heard.taken as u64).wrapping_sub(1);
-    let mode = heard.state.slots.mode;
-    let mut next = tally.with_mode(rt, mode, last);
-    if heard.refusal != 0 {
-        next = next.refuse(rt, false, last);
-    }
-    if heard.slot {
-        let line = heard.line;
-        next = next.print(rt, false, line);
-    }
-    next
-}
-
 impl Downlink {
+    // Tells what a step from that counter on came to: the receiver's mode, a refused sample, a slot's line.
+    fn tell<H: Host>(&mut self, rt: &H, heard: Heard, first: u64) {
+        let last = first.wrapping_add(heard.taken as u64).wrapping_sub(1);
+        let mut tally = self.tally.with_mode(rt, self.receiver.slots.mode, last);
+        if heard.refusal.is_some() {
+            tally = tally.refuse(rt, false, last);
+        }
+        if let Some(line) = heard.line {
+            tally = tally.print(rt, false, line);
+        }
+        self.tally = tally;
+    }
+
     // Hears a block of samples, re and im in turn.
     fn hear<H: Host>(
-        self,
+        &mut self,
         rt: &H,
         re: &mut [f32; 2048],
         im: &mut [f32; 2048],
         abs: &mut [f32; 2048],
         parts: &[f32],
         style: Style,
-    ) -> Downlink {
+    ) {
         let count = parts.len() / 2;
         let start = self.tally.counter;
-        let mut receiver = self.receiver;
-        let mut tally = self.tally;
         let mut at: usize = 0;
         for _ in 0..u64::MAX {
-            if !tally.is_open | (count <= at) {
+            if !self.tally.is_open || count <= at {
                 break;
             }
             let first = start.wrapping_add(at as u64);
-            let n = step_length(receiver, first);
-            let heard = slot_lines::hear(
-                receiver,
-                re,
-                im,
-                abs,
-                samples_from(parts, at, n),
-                count_of(first),
-                style,
-            );
-            receiver = heard.state;
+            let n = step_length(self.receiver, first);
+            let samples = samples_from(parts, at, n);
+            let receiver = &mut self.receiver;
+            let heard = slot_lines::hear(receiver, re, im, abs, samples, count_of(first), style);
             at = at.wrapping_add(heard.taken);
-            tally = told(rt, tally, heard, first);
+            self.tell(rt, heard, first);
         }
-        Downlink {
-            receiver,
-            tally: tally.moved(rt, at, parts),
-        }
+        self.tally = self.tally.moved(rt, at, parts);
     }
 }
 
@@ -91,13 +77,13 @@ pub(crate) fn receive<H: Host, R: Read + Drop>(rt: &H, from: R, options: Options
         tally: Tally::new(rt, options),
     };
     for _ in 0..u64::MAX {
-        if !downlink.tally.is_open | input.is_over {
+        if !downlink.tally.is_open || input.is_over {
             break;
         }
         input.fill(rt, &mut block, b"tetra_rx: the input cannot be read");
         let n = downlink.tally.room(input.samples());
         input.decode(&block, n, &mut parts);
-        downlink = downlink.hear(
+        downlink.hear(
             rt,
             &mut re,
             &mut im,

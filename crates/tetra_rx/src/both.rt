@@ -2,14 +2,12 @@
 use crate::input::{Input, first_samples, samples_from};
 use crate::options::Options;
 use crate::tally::{Tally, count_of, step_length};
-use dsp_types::least;
 use receiver::State;
-use slot_lines::{Links, LinksHeard};
+use slot_lines::{Links, LinksHeard, Style};
 use slot_receiver::Mode;
-use slot_text::Form;
+use slot_text::Link;
 use std::io::Read;
 use streams::Host;
-use text::Text;
 
 // The pasts of both receivers are lent to the calls that hear, so that none of them copies them.
 #[derive(Clone, Copy)]
@@ -18,54 +16,43 @@ struct Both {
     tally: Tally,
 }
 
-// Whether a line of the downlink waits for the uplink.
-fn is_held(links: Links) -> bool {
-    0 < links.line.len
-}
-
-// What a step from that counter on came to, of the uplink or of the downlink: a refused sample, a slot's line, and the
-// downlink's mode.
-fn told<H: Host>(rt: &H, tally: Tally, is_up: bool, heard: LinksHeard, first: u64) -> Tally {
-    let ahead = if is_up {
-        heard.taken
-    } else {
-        heard.links.behind
-    };
-    let last = first.wrapping_add(ahead as u64).wrapping_sub(1);
-    let mut next = tally;
-    let line = heard.line;
-    if 0 < line.len {
-        next = next.print(rt, is_up, line);
-    }
-    if heard.refusal != 0 {
-        next = next.refuse(rt, is_up, last);
-    }
-    if is_up {
-        next
-    } else {
-        next.with_mode(rt, heard.links.down.slots.mode, last)
-    }
-}
-
 impl Both {
     fn new(tally: Tally) -> Both {
-        let down = State::new(Mode::DlUnsynchronized);
-        let up = State::new(Mode::Idle);
-        let line = Text::new();
         let links = Links {
-            down,
-            up,
+            down: State::new(Mode::DlUnsynchronized),
+            up: State::new(Mode::Idle),
             begins: false,
             behind: 0,
-            slot: false,
-            line,
+            line: None,
         };
         Both { links, tally }
     }
 
+    // Tells what a step from that counter on came to, of the uplink or of the downlink: a slot's line, a refused sample, and the
+    // downlink's mode.
+    fn tell<H: Host>(&mut self, rt: &H, is_up: bool, heard: LinksHeard, first: u64) {
+        let ahead = if is_up {
+            heard.taken
+        } else {
+            self.links.behind
+        };
+        let last = first.wrapping_add(ahead as u64).wrapping_sub(1);
+        let mut tally = self.tally;
+        if let Some(line) = heard.line {
+            tally = tally.print(rt, is_up, line);
+        }
+        if heard.refusal.is_some() {
+            tally = tally.refuse(rt, is_up, last);
+        }
+        if !is_up {
+            tally = tally.with_mode(rt, self.links.down.slots.mode, last);
+        }
+        self.tally = tally;
+    }
+
     // Hears a block of samples of each link, re and im in turn.
     fn hear<H: Host>(
-        self,
+        &mut self,
         rt: &H,
         re: &mut [f32; 2048],
         im: &mut [f32; 2048],
@@ -75,47 +62,43 @@ impl Both {
         up_abs: &mut [f32; 2048],
         parts: &[f32],
         up_parts: &[f32],
-        form: Form,
-        has_bits: bool,
-    ) -> Both {
-        let count = least(parts.len(), up_parts.len()) / 2;
+        style: Style,
+    ) {
+        let count = parts.len().min(up_parts.len()) / 2;
         let start = self.tally.counter;
-        let mut links = self.links;
-        let mut tally = self.tally;
         let mut at: usize = 0;
         for _ in 0..u64::MAX {
-            if !tally.is_open | ((count <= at) & !is_held(links)) {
+            // A line of the downlink waits for the uplink.
+            let is_held = self.links.line.is_some();
+            if !self.tally.is_open || count <= at && !is_held {
                 break;
             }
             let first = start.wrapping_add(at as u64);
-            let is_up = 0 < links.behind;
+            let is_up = 0 < self.links.behind;
             let n = if is_up {
-                links.behind
+                self.links.behind
             } else {
-                step_length(links.down, first)
+                step_length(self.links.down, first)
             };
+            let samples = samples_from(parts, at, n);
+            let up_samples = samples_from(up_parts, at, n);
             let heard = slot_lines::hear_links(
-                links,
+                &mut self.links,
                 re,
                 im,
                 abs,
                 up_re,
                 up_im,
                 up_abs,
-                samples_from(parts, at, n),
-                samples_from(up_parts, at, n),
+                samples,
+                up_samples,
                 count_of(first),
-                form,
-                has_bits,
+                style,
             );
-            links = heard.links;
             at = at.wrapping_add(heard.taken);
-            tally = told(rt, tally, is_up, heard, first);
+            self.tell(rt, is_up, heard, first);
         }
-        Both {
-            links,
-            tally: tally.moved(rt, at, parts),
-        }
+        self.tally = self.tally.moved(rt, at, parts);
     }
 }
 
@@ -124,7 +107,7 @@ fn common<R: Read>(down: &Input<R>, up: &Input<R>) -> usize {
     if up.is_over {
         down.samples()
     } else {
-        least(down.samples(), up.samples())
+        down.samples().min(up.samples())
     }
 }
 
@@ -140,24 +123,29 @@ pub(crate) fn receive<H: Host, R: Read + Drop>(rt: &H, from: R, up_from: R, opti
     let mut up_re = [0.0f32; 2048];
     let mut up_im = [0.0f32; 2048];
     let mut up_abs = [0.0f32; 2048];
-    let form = options.form();
+    // Whose link is each line's own.
+    let style = Style {
+        form: options.form(),
+        has_bits: options.has_bits,
+        link: Link::Down,
+    };
     let mut down = Input::new(from, options.format());
     let mut up = Input::new(up_from, options.format());
     let mut both = Both::new(Tally::new(rt, options));
     for _ in 0..u64::MAX {
-        if !both.tally.is_open | down.is_over {
+        if !both.tally.is_open || down.is_over {
             break;
         }
         down.fill(rt, &mut block, b"tetra_rx: the input cannot be read");
-        let was_over = up.is_over | down.is_over;
+        let was_over = up.is_over || down.is_over;
         up.fill(rt, &mut up_block, b"tetra_rx: the uplink cannot be read");
-        if up.is_over & !was_over {
+        if up.is_over && !was_over {
             both.tally.tell_uplink_end(rt);
         }
         let n = both.tally.room(common(&down, &up));
         down.decode(&block, n, &mut parts);
         up.decode(&up_block, n, &mut up_parts);
-        both = both.hear(
+        both.hear(
             rt,
             &mut re,
             &mut im,
@@ -167,8 +155,7 @@ pub(crate) fn receive<H: Host, R: Read + Drop>(rt: &H, from: R, up_from: R, opti
             &mut up_abs,
             first_samples(&parts, n),
             first_samples(&up_parts, n),
-            form,
-            options.has_bits,
+            style,
         );
         down.without(&mut block, n);
         up.without(&mut up_block, n);

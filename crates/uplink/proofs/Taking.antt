@@ -5,6 +5,7 @@ use mathlib.Core.Logic.{◌⊎◌, inl, inr}
 use mathlib.Core.List.{List, [], ◌∷◌, ◌++◌, Memᴰ, map, map-append}
 use Prim.Native.Nat.{ℕ, zero, suc, ◌*◌, ◌≤◌}
 use native.Mathlib.Omega.{arith}
+use Rattle.std.specs.Prelude.{Result, Ok, Err, OnErr}
 use lib.IntN.{ℤ, pos, nat_abs, ◌-ℤ◌}
 use lib.ListN.{length, get_or}
 use Rattle.dsp_types.specs.declared.ComplexSample.{ComplexSample}
@@ -303,3 +304,10 @@ counter_taken r x c slot subslot1 subslot2 p s e q =
       windows = k;
       taken = taken_counter (take_refusal slot subslot1 subslot2 (accept r x c).waits) (accept r x c) (slot ∷ subslot1 ∷ subslot2 ∷ []) s (sym q ∙ p ∙ rw e) ∙ ap valid_closing k.last;
     }
+
+-- ---- two refused calls
+
+pub both_refused : {A B E D : Type 0} {a b c : D} (x : Result A E) (y : Result B E) → OnErr x (b ≡ a) → OnErr y (c ≡ b) → OnErr x (OnErr y (c ≡ a))
+both_refused (Ok x) y e f = tt
+both_refused (Err m) (Ok y) e f = tt
+both_refused (Err m) (Err n) e f = f ∙ e

@@ -1,25 +1,21 @@
 -- By why the feed took no more samples.
-use Rattle.slot_lines.specs.Blocks.{step_made}
-use Rattle.slot_lines.proofs.Steps.{at_end, at_refused, at_slot}
+use Rattle.std.proofs.Common.{refl}
+use Rattle.receiver.specs.Feed.{stopped}
+use Rattle.slot_lines.specs.Blocks.{stretch_by, step_made}
+use Rattle.slot_lines.proofs.Steps.{fed_made, slot_made}
 use Rattle.slot_lines.proofs.listen.hear_row.Goals as goal
 
 pub returns-in-End : goal.returns-in-End
-unfolding step_made
-returns-in-End c =
-    let e = c.feed-fed.ensures in
-    let n = c.no_line.ensures in
-    record { step = at_end c.args.style _ _ _ e.taken e.stop e.receiver n.0 c.in-End.is n.1.0 n.1.1.0 n.1.1.1.0 (n.1.1.1.1 _ _ _) }
+unfolding stretch_by step_made stopped
+returns-in-End c = let e = c.feed-fed.ensures in fed_made c.args.style _ _ _ e.taken (rw c.in-End.is at e.stop) e.receiver
 
 pub returns-in-Slot : goal.returns-in-Slot
-unfolding step_made
+unfolding stretch_by step_made stopped
 returns-in-Slot c =
     let e = c.feed-fed.ensures in
     let t = c.take_line.ensures in
-    record { step = at_slot c.args.style _ _ _ e.taken e.stop e.receiver t.step.0 c.in-Slot.is t.step.1.0 t.step.1.1 (t.line _ _ _) (t.receiver _ _ _) }
+    slot_made c.args.style _ _ _ e.taken (rw c.in-Slot.is at e.stop) e.receiver refl (t.line _ _ _) (t.receiver _ _ _)
 
 pub returns-in-Refused : goal.returns-in-Refused
-unfolding step_made
-returns-in-Refused c =
-    let e = c.feed-fed.ensures in
-    let n = c.no_line-in-Refused.ensures in
-    record { step = at_refused c.args.style _ _ _ e.taken e.stop e.receiver n.0 _ c.in-Refused.is n.1.0 n.1.1.0 n.1.1.1.0 (n.1.1.1.1 _ _ _) }
+unfolding stretch_by step_made stopped
+returns-in-Refused c = let e = c.feed-fed.ensures in fed_made c.args.style _ _ _ e.taken (rw c.in-Refused.is at e.stop) e.receiver

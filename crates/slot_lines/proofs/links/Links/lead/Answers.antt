@@ -7,5 +7,6 @@ use Rattle.slot_lines.proofs.links.Links.lead.Goals as goal
 pub returns : goal.returns
 unfolding step_made down_style both_of both_made
 returns c =
+    let f = c.follow_if.ensures in
     λ up_re up_im up_abs.
-    led_made c.args.form c.args.has_bits _ _ _ c.hear-heard.ensures.step (c.follow_if-up.ensures up_re up_im up_abs _ _ _) (c.begins_if-begins.ensures up_re up_im up_abs)
+    led_made c.args.style.form c.args.style.has_bits _ _ _ (rw f.others.0 at c.hear-heard.ensures.step) (f.up up_re up_im up_abs _ _ _) (f.begins up_re up_im up_abs)
