@@ -32,14 +32,23 @@ impl Demodulator {
     }
 
     // Takes one sample, or refuses it and stays as it is.
-    pub fn sample(&mut self, input: ComplexSample, sample_counter: SampleCount) -> Result<(), Refusal>
+    pub fn sample(
+        &mut self,
+        input: ComplexSample,
+        sample_counter: SampleCount,
+    ) -> Result<(), Refusal>
         ensures answer { reply_of result ≡ (sample_outcome (view_of self.old) input sample_counter.0).reply }
         ensures receiver { view_of self.new ≡ (sample_outcome (view_of self.old) input sample_counter.0).receiver }
         ensures refused { OnErr result (self.new ≡ self.old) }
     {
         let past = &mut self.past;
-        self.state
-            .sample(&mut past.re, &mut past.im, &mut past.abs, input, sample_counter)
+        self.state.sample(
+            &mut past.re,
+            &mut past.im,
+            &mut past.abs,
+            input,
+            sample_counter,
+        )
     }
 
     // Takes the slot that waits: its views fill 510, 254 and 254 lent bytes. Or refuses, and everything stays as it is.

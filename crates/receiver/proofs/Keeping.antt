@@ -20,7 +20,7 @@ use Rattle.slot_receiver.specs.Calls.{sample_refusal}
 use Rattle.slot_receiver.proofs.Keeping.{Quiet, quiet_samples_lem}
 use Rattle.receiver.specs.Feed.{Block, feed_of}
 use Rattle.receiver.specs.Keep.{keep_all, any_beyond, OnlyKept}
-use Rattle.receiver.proofs.Feeding.{ahead, at_next}
+use Rattle.receiver.proofs.Feeding.{ahead, goes_on}
 use Rattle.receiver.proofs.Samples.{counted}
 
 -- ---- one sample
@@ -159,7 +159,7 @@ kept_block (x ∷ xs) ys all k r c q f e =
     let q1 = still r c (length xs) q x in
     let g : with_next (listen r x) (c +ℤ pos 1) ≡ accept r x c = sym (accepted r c (length xs) q x) in
     let w : false ≡ hands_over (accept_windows r x c) = rw (no_window r c (length xs) q x) none in
-    let d = at_next all k r c x (xs ++ ys) e (not_refused r c (length xs) q x fine.first) (with_next (listen r x) (c +ℤ pos 1)) g false w refl in
+    let d = goes_on all k r c x (xs ++ ys) e (not_refused r c (length xs) q x fine.first) (with_next (listen r x) (c +ℤ pos 1)) g false w refl in
     let n : k + 1 + length xs ≡ k + suc (length xs) = omega arith in
     let z : c +ℤ pos 1 +ℤ pos (length xs) ≡ c +ℤ pos (suc (length xs)) =
     same (c +ℤ pos 1 +ℤ pos (length xs)) (c +ℤ pos (suc (length xs))) (omega (arith, sum c (pos 1), sum (c +ℤ pos 1) (pos (length xs)), sum c (pos (suc (length xs))))) in

@@ -39,7 +39,8 @@ fn parts_of(samples: &[f32], at: usize, most: usize, re: &mut [f32], im: &mut [f
     while len < room {
         let x = samples[2 * (at + len)];
         let y = samples[2 * (at + len) + 1];
-        if is_beyond(x) || is_beyond(y) {
+        // Both parts are tested: one branch for each sample.
+        if is_beyond(x) | is_beyond(y) {
             return len;
         }
         re[len] = x;

@@ -58,7 +58,7 @@ zeros (suc n) = ap (λ (l : List ℕ). 0 ∷ l) (zeros n)
 padded_more : (n k : ℕ) (bits : List ℕ) → k ≡ min (length bits) n → padded k bits ++ replicate (n - k) 0 ≡ padded n bits
 unfolding padded
 padded_more zero k bits h = let e : k ≡ 0 = omega arith in rw e refl
-padded_more (suc n) k [] h = 
+padded_more (suc n) k [] h =
     let e : k ≡ 0 = omega arith in
     let s : suc n - 0 ≡ suc n = omega arith in
     rw (e, s) (ap (λ (l : List ℕ). 0 ∷ l) (zeros n))

@@ -18,7 +18,11 @@ pub fn is_beyond(part: f32) -> bool
 
 // Why a sample is refused, where next is the counter after the last accepted one.
 #[tactic(auto, unfolding(slot_receiver::specs::Calls::sample_refusal))]
-pub fn sample_refusal(next: SampleCount, input: ComplexSample, counter: SampleCount) -> Result<(), Refusal>
+pub fn sample_refusal(
+    next: SampleCount,
+    input: ComplexSample,
+    counter: SampleCount,
+) -> Result<(), Refusal>
     ensures { answer_number result ≡ sample_refusal next.0 input counter.0 }
 {
     if is_beyond(input.re) || is_beyond(input.im) {

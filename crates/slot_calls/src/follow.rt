@@ -28,7 +28,11 @@ fn follow(slots: &mut SlotReceiver, demod: &SlotReceiver)
         Mode::DlUnsynchronized => slots.mode = Mode::Idle.number(),
         Mode::Dl => {
             slots.reference_time = demod.reference_time;
-            slots.current_slot = slot_when(slots.mode(), demod.demodulated_slot.time, slots.current_slot);
+            slots.current_slot = slot_when(
+                slots.mode(),
+                demod.demodulated_slot.time,
+                slots.current_slot,
+            );
             slots.mode = Mode::Ul.number();
         }
     }

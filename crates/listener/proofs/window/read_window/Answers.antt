@@ -16,6 +16,6 @@ returns c inputs =
     record {
       timing = timing;
       bits =
-      decided inputs a.re.now a.im.now a.abs.now a.index d n (starts_within a.window) (symbols_within a.window) _ _ _ _ timing c.whole-whole.ensures
-      c.fract-fract.ensures b;
+          decided inputs a.re.now a.im.now a.abs.now a.index d n (starts_within a.window) (symbols_within a.window) _ _ _ _ timing c.whole-whole.ensures
+          c.fract-fract.ensures b;
     }

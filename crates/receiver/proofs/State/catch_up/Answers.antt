@@ -46,6 +46,11 @@ loop-done-init c =
     let e : n - 0 ≡ n = omega arith in
     record { fed = rw e; windows = rw e }
 
+pub overflow_cast-left : goal.overflow_cast-left
+overflow_cast-left c =
+    let n = fewer (goal.at.overflow_cast-left c).After-missing_samples-count in
+    omega (arith, n, c.requires.0.high)
+
 pub process_sample-hands-requires : goal.process_sample-hands-requires
 process_sample-hands-requires c =
     let n = fewer (goal.at.process_sample-hands-requires c).After-missing_samples-count in

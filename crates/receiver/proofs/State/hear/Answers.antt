@@ -1,5 +1,5 @@
 -- Refused as it was, or accepted.
-use Rattle.std.proofs.Common.{◌≡◌, ℤ, ap, sym, ◌∙◌, Result, Ok, Err, Unit}
+use Rattle.std.proofs.Common.{◌≡◌, ℤ, ap, sym, ◌∙◌}
 use Rattle.std.proofs.lemmas.Result.{err_from_is_err_and}
 use Rattle.dsp_types.specs.Answers.{answer_number}
 use Rattle.slot_receiver.specs.Receiver.{Receiver, valid_count}

@@ -1,5 +1,5 @@
 -- A sample is only kept, or judged.
-use Rattle.std.proofs.Common.{◌≡◌, ℕ, pos, ◌+ℤ◌, sym, ap, ◌∙◌, arith}
+use Rattle.std.proofs.Common.{◌≡◌, pos, ◌+ℤ◌, sym, ap, ◌∙◌, arith}
 use Rattle.std.proofs.lemmas.Result.{err_from_is_err_and}
 use Rattle.slot_receiver.specs.Receiver.{with_next, valid_count, listen, accept}
 use Rattle.slot_receiver.specs.Calls.{Outcome, sample_refusal, sampled, sample_outcome, reply_of}
