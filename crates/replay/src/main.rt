@@ -14,12 +14,10 @@ mod session;
 mod stateless;
 mod uplink;
 
-use demodulator::Demodulator;
 use input::{Input, next_line};
 use output::Output;
-use receivers::{called, leader, serve};
+use receivers::{Receivers, serve};
 use session::Session;
-use slot_receiver::Mode;
 use std::io::Read;
 use streams::Host;
 
@@ -30,8 +28,7 @@ fn run<H: Host, R: Read>(rt: &H, from: &mut R) {
     let mut input = Input::new();
     let mut out = Output::new();
     let mut session = Session::new();
-    let mut receivers = [Demodulator::new(Mode::Idle); 4];
-    let mut made = [false; 4];
+    let mut receivers: Receivers = [None; 4];
     // A proved loop has to end, and nothing says that the input does: it counts to a number that no run reaches.
     for _ in 0..u64::MAX {
         if out.is_broken {
@@ -42,22 +39,11 @@ fn run<H: Host, R: Read>(rt: &H, from: &mut R) {
         if next.is_end {
             break;
         }
-        let r = called(&line, next.len, made);
-        if r < 4 {
-            let served = serve(
-                receivers[r],
-                receivers[leader(&line, next.len)],
-                &line,
-                next.len,
-            );
-            let new = served.receiver;
-            receivers[r] = new;
-            made[r] = true;
-            out = out.add(rt, &mut answers, served.answer);
-        } else {
-            let answer = session.step(&line, next.len);
-            out = out.add(rt, &mut answers, answer);
-        }
+        let answer = match serve(&mut receivers, &line, next.len) {
+            Some(answer) => answer,
+            None => session.step(&line, next.len),
+        };
+        out = out.add(rt, &mut answers, answer);
     }
     out.flush(rt, &answers);
 }

@@ -1,39 +1,31 @@
 // The calls on receivers.
-ghost use Rattle.std.specs.Prelude.{◌<◌};
+ghost use Rattle.std.specs.Prelude.{IfSome, ◌<◌};
 
 use crate::answer::{error, ok, refused, with_number};
 use crate::field;
 use crate::field::{count, counter, field, is_counter, is_sample, letter, number};
 use crate::input::Block;
 use demodulator::Demodulator;
-use dsp_types::{least, unsigned};
+use dsp_types::{Refusal, unsigned};
 use program::is_word;
 use rx_slot::{RxBurst, RxSlot};
-use slot_receiver::{Answer, Mode, TakeAnswer};
+use slot_receiver::Mode;
 use text::Text;
 
 const LONGEST_SLICE: u64 = 4096;
 
-// The receiver after a call, and its answer.
-#[derive(Clone, Copy)]
-pub struct Served {
-    pub receiver: Demodulator,
-    pub answer: Text,
-}
+// Those that calls have made.
+pub(crate) type Receivers = [Option<Demodulator>; 4];
 
 // The bytes that are lent to a take.
 type Lent = [u8; 4096];
 
-// The number of a receiver or a mode, 0 to 3, in field k; of any other 4.
-fn low(line: &[u8], k: usize) -> usize {
+// The number of a receiver or a mode, 0 to 3, in field k.
+fn low(line: &[u8], k: usize) -> Option<usize>
+    ensures { IfSome result (λ n. n < 4) }
+{
     let n = number(line, k);
-    if n < 4 { n as usize } else { 4 }
-}
-
-// Whether a call has made the receiver in field k.
-fn is_made(line: &[u8], k: usize, made: [bool; 4]) -> bool {
-    let r = low(line, k);
-    if r < 4 { made[r] } else { false }
+    if n < 4 { Some(n as usize) } else { None }
 }
 
 // Whether a take is told with its slot's closing counter.
@@ -42,52 +34,24 @@ fn has_counter(line: &[u8]) -> bool {
 }
 
 fn is_take(line: &[u8]) -> bool {
-    ((letter(line, 0) == b't') | has_counter(line))
-        & (number(line, 2) <= LONGEST_SLICE)
-        & (number(line, 3) <= LONGEST_SLICE)
-        & (number(line, 4) <= LONGEST_SLICE)
+    (letter(line, 0) == b't' || has_counter(line))
+        && number(line, 2) <= LONGEST_SLICE
+        && number(line, 3) <= LONGEST_SLICE
+        && number(line, 4) <= LONGEST_SLICE
 }
 
 fn is_sampling(line: &[u8]) -> bool {
-    (letter(line, 0) == b's') & is_counter(line, 2) & is_sample(line, 3)
-}
-
-fn is_new(line: &[u8]) -> bool {
-    is_word(field(line, 0), b"new") & (low(line, 2) < 4)
-}
-
-// The receiver that the block's line of that length calls, or 4 where it calls none of those that are made.
-pub(crate) fn called(block: &Block, len: usize, made: [bool; 4]) -> usize {
-    let line = text::front(block, len);
-    let is_call = match count(line) {
-        3 => is_new(line)
-            | ((letter(line, 0) == b'f') & is_made(line, 1, made) & is_made(line, 2, made)),
-        5 => is_made(line, 1, made) & (is_sampling(line) | is_take(line)),
-        _ => false,
-    };
-    if is_call { low(line, 1) } else { 4 }
-}
-
-// The receiver that the called one is told to follow; any where it is not told to.
-pub(crate) fn leader(block: &Block, len: usize) -> usize
-    ensures { result < 4 }
-{
-    low(text::front(block, len), 2) % 4
+    letter(line, 0) == b's' && is_counter(line, 2) && is_sample(line, 3)
 }
 
 // The first bytes, as many as field k says.
 fn front<'a>(s: &'a mut [u8], line: &[u8], k: usize) -> &'a mut [u8] {
-    let len = least(number(line, k) as usize, s.len());
+    let len = (number(line, k) as usize).min(s.len());
     &mut s[0..len]
 }
 
 fn is_all(bytes: &[u8], byte: u8) -> bool {
-    for i in 0..bytes.len() {
-        if bytes[i] != byte {
-            return false;
-        }
-    }
-    true
+    bytes.iter().all(|b| *b == byte)
 }
 
 // The text with type, errors and bits of a burst behind it.
@@ -122,21 +86,27 @@ fn slot_text(told: RxSlot, has_counter: bool, slot: &Lent, half1: &Lent, half2: 
 }
 
 // The answer to a take, whose lent bytes were 7 before.
-fn taken(answer: TakeAnswer, has_counter: bool, slot: &Lent, half1: &Lent, half2: &Lent) -> Text {
+fn taken(
+    answer: Result<RxSlot, Refusal>,
+    has_counter: bool,
+    slot: &Lent,
+    half1: &Lent,
+    half2: &Lent,
+) -> Text {
     match answer {
-        TakeAnswer::Slot(told) => {
+        Ok(told) => {
             if is_padded(told.full, slot, 510)
-                & is_padded(told.subslot1, half1, 254)
-                & is_padded(told.subslot2, half2, 254)
+                && is_padded(told.subslot1, half1, 254)
+                && is_padded(told.subslot2, half2, 254)
             {
                 slot_text(told, has_counter, slot, half1, half2)
             } else {
                 error()
             }
         }
-        TakeAnswer::Refused(number) => {
-            if is_all(slot, 7) & is_all(half1, 7) & is_all(half2, 7) {
-                refused(number)
+        Err(refusal) => {
+            if is_all(slot, 7) && is_all(half1, 7) && is_all(half2, 7) {
+                refused(refusal.number())
             } else {
                 error()
             }
@@ -145,10 +115,10 @@ fn taken(answer: TakeAnswer, has_counter: bool, slot: &Lent, half1: &Lent, half2
 }
 
 // The answer to a call that is accepted with that text or refused.
-fn told(answer: Answer, accepted: Text) -> Text {
+fn told(answer: Result<(), Refusal>, accepted: Text) -> Text {
     match answer {
-        Answer::Accepted => accepted,
-        Answer::Refused(number) => refused(number),
+        Ok(()) => accepted,
+        Err(refusal) => refused(refusal.number()),
     }
 }
 
@@ -161,57 +131,45 @@ fn mode_of(number: usize) -> Mode {
     }
 }
 
-fn sample(old: Demodulator, line: &[u8]) -> Served {
-    let next = old.sample(field::sample(line, 3), counter(line, 2));
-    let answer = next.answer;
-    let receiver = next.receiver;
-    Served {
-        receiver,
-        answer: told(answer, Text::new()),
-    }
+fn sample(receiver: &mut Demodulator, line: &[u8]) -> Text {
+    let answer = receiver.sample(field::sample(line, 3), counter(line, 2));
+    told(answer, Text::new())
 }
 
-fn take(old: Demodulator, line: &[u8]) -> Served {
+fn take(receiver: &mut Demodulator, line: &[u8]) -> Text {
     let mut slot = [7u8; 4096];
     let mut half1 = [7u8; 4096];
     let mut half2 = [7u8; 4096];
-    let next = old.take_demodulated_slot(
+    let answer = receiver.take_demodulated_slot(
         front(&mut slot, line, 2),
         front(&mut half1, line, 3),
         front(&mut half2, line, 4),
     );
-    let answer = next.answer;
-    let receiver = next.receiver;
-    Served {
-        receiver,
-        answer: taken(answer, has_counter(line), &slot, &half1, &half2),
-    }
+    taken(answer, has_counter(line), &slot, &half1, &half2)
 }
 
-fn follow(old: Demodulator, leader: Demodulator) -> Served {
-    let next = old.sync_to_demodulator(leader);
-    let answer = next.answer;
-    let receiver = next.receiver;
-    Served {
-        receiver,
-        answer: told(answer, ok()),
-    }
-}
-
-fn anew(line: &[u8]) -> Served {
-    Served {
-        receiver: Demodulator::new(mode_of(low(line, 2))),
-        answer: ok(),
-    }
-}
-
-// Makes the call of the block's line of that length.
-pub(crate) fn serve(old: Demodulator, leader: Demodulator, block: &Block, len: usize) -> Served {
+// Makes the call of the block's line of that length, if it is one on receivers that are made, or makes one.
+pub(crate) fn serve(receivers: &mut Receivers, block: &Block, len: usize) -> Option<Text> {
     let line = text::front(block, len);
-    match letter(line, 0) {
-        b's' => sample(old, line),
-        b't' | b'T' => take(old, line),
-        b'f' => follow(old, leader),
-        _ => anew(line),
+    let fields = count(line);
+    let r = low(line, 1)?;
+    if fields == 3 && is_word(field(line, 0), b"new") {
+        let mode = mode_of(low(line, 2)?);
+        receivers[r] = Some(Demodulator::new(mode));
+        return Some(ok());
     }
+    let called = receivers[r];
+    let mut receiver = called?;
+    let answer = if fields == 3 && letter(line, 0) == b'f' {
+        let leader = receivers[low(line, 2)?];
+        told(receiver.sync_to_demodulator(&leader?), ok())
+    } else if fields == 5 && is_sampling(line) {
+        sample(&mut receiver, line)
+    } else if fields == 5 && is_take(line) {
+        take(&mut receiver, line)
+    } else {
+        return None;
+    };
+    receivers[r] = Some(receiver);
+    Some(answer)
 }
