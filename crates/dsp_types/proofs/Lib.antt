@@ -4,3 +4,4 @@ pub mod Fitting
 pub mod IntLaws
 pub mod RingLaws
 pub mod Laws
+pub mod Numbers

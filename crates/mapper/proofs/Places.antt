@@ -11,8 +11,8 @@ use borrow.Author.Tests.{ltb-false, lt-ltb, le-ltb, eq-eqb, ne_eqb}
 use Rattle.dsp_types.proofs.IntLaws.{less, same}
 use Rattle.dsp_types.specs.Refusals.{last_counter, out_of_count}
 use Rattle.dsp_types.specs.declared.refusals.Refusal.{Refusal}
-use Rattle.dsp_types.specs.declared.refusals.Refusal.TheVariants.{BadSample, BadCounter, BadLength, BadBit, BadTraining, BadSlot, BadKind, PastCounter, NoSlot, NeedMoreData, NotFollowing}
 use Rattle.dsp_types.specs.Answers.{number_of}
+use Rattle.dsp_types.proofs.Numbers.{not_accepted}
 use Rattle.mapper.specs.declared.Due.{Due}
 use Rattle.mapper.specs.declared.Due.TheVariants.{Silence, Symbol}
 use Rattle.mapper.specs.Due.{bits_refusal, slot_refusal, input_refusal, bit_at, symbol_due, due_in, start_of, place_in, due_at, due_if, due_of}
@@ -81,29 +81,15 @@ module _ (n start : ℕ) (h : start ≤ n) (k : n - start < 1020) where
 
 -- ---- what is due in a call
 
--- a refusal's number is not 0
-pub some_number : (r : Refusal) → 1 ≤ number_of r
-some_number BadSample = omega arith
-some_number BadCounter = omega arith
-some_number BadLength = omega arith
-some_number BadBit = omega arith
-some_number BadTraining = omega arith
-some_number BadSlot = omega arith
-some_number BadKind = omega arith
-some_number PastCounter = omega arith
-some_number NoSlot = omega arith
-some_number NeedMoreData = omega arith
-some_number NotFollowing = omega arith
-
-refused_if : (n : ℕ) (d : Result Due ℕ) → 1 ≤ n → Err n ≡ due_if n d
+refused_if : (n : ℕ) (d : Result Due ℕ) → (n ≡ 0 → ⊥) → Err n ≡ due_if n d
 unfolding due_if
-refused_if zero d h = absurd (omega arith)
+refused_if zero d h = absurd (h refl)
 refused_if (suc n) d h = refl
 
 module _ (c : ℤ) (slot : ℕ) (bits : Option (List ℕ)) where
   pub refused : (r : Refusal) → number_of r ≡ input_refusal c slot bits → Err (number_of r) ≡ due_of c slot bits
   unfolding due_of
-  refused r e = rw (← e) (refused_if (number_of r) _ (some_number r))
+  refused r e = rw (← e) (refused_if (number_of r) _ (not_accepted r))
 
   pub accepted : (d : Result Due ℕ) (n start : ℕ) → 0 ≡ input_refusal c slot bits → n ≡ mag c → start ≡ start_of slot → d ≡ due_at bits (pos (n + 16) -ℤ pos start) → d ≡ due_of c slot bits
   unfolding due_of due_if place_in

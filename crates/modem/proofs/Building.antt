@@ -12,7 +12,7 @@ use Rattle.dsp_types.specs.Answers.{number_of, answer_number}
 use Rattle.slotter.specs.declared.Burst.{Burst}
 use Rattle.slotter.specs.Bursts.{BuilderReply, builder_reply, refusal}
 use Rattle.slotter.specs.Uplink.{UplinkReply, uplink_reply, uplink_number, uplink_bits}
-use Rattle.slotter.proofs.Answers.{number_positive}
+use Rattle.dsp_types.proofs.Numbers.{not_accepted}
 use Rattle.modem.specs.Build.{lend_refusal, lent_unless, lent_answer, build_refusal, lent_burst, uplink_refusal, lent_uplink}
 
 -- a refusal leaves the lent bytes alone
@@ -27,7 +27,7 @@ refused n r bits = go (wrong_length n bits)
   where
     go : (b : Bool) → cond b bad_length (number_of r) ≡ 0 → ⊥
     go true e = absurd (omega (arith, e))
-    go false e = number_positive r e
+    go false e = not_accepted r e
 
 -- a downlink builder's answer, and its bits
 module _ {reply : BuilderReply} (bits : List ℕ) where

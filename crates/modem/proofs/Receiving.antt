@@ -1,12 +1,11 @@
 -- The receiver's calls from C: an answer by its number. Assumes nothing.
 use mathlib.Core.Path.{◌≡◌, refl, sym, ◌∙◌}
 use Prim.Native.Nat.{ℕ}
-use native.Mathlib.Omega.{arith}
 use Rattle.std.specs.Prelude.{Result, Ok, Err, OnOk, OnErr}
 use Rattle.std.specs.Result.{result_unwrap_or}
 use Rattle.dsp_types.specs.declared.refusals.Refusal.{Refusal}
-use Rattle.dsp_types.specs.declared.refusals.Refusal.TheVariants.{BadSample, BadCounter, BadLength, BadBit, BadTraining, BadSlot, BadKind, PastCounter, NoSlot, NeedMoreData, NotFollowing}
-use Rattle.dsp_types.specs.Answers.{number_of, answer_number}
+use Rattle.dsp_types.specs.Answers.{answer_number}
+use Rattle.dsp_types.proofs.Numbers.{not_accepted}
 use Rattle.rx_slot.specs.declared.RxSlot.{RxSlot}
 use Rattle.slot_receiver.specs.Calls.{Reply, reply_of, take_reply_of}
 use Rattle.rx_slot.specs.Slots.{HandedSlot}
@@ -30,20 +29,6 @@ unfolding slot_taken take_reply_of
 slot_or_empty (Ok s) e z f = e ∙ rw (← f)
 slot_or_empty (Err refusal) e z f = e ∙ z ∙ rw (← f)
 
--- none is refused with 0
-number_some : (refusal : Refusal) → number_of refusal ≡ 0 → ⊥
-number_some BadSample e = omega arith
-number_some BadCounter e = omega arith
-number_some BadLength e = omega arith
-number_some BadBit e = omega arith
-number_some BadTraining e = omega arith
-number_some BadSlot e = omega arith
-number_some BadKind e = omega arith
-number_some PastCounter e = omega arith
-number_some NoSlot e = omega arith
-number_some NeedMoreData e = omega arith
-number_some NotFollowing e = omega arith
-
 -- what holds at a refusal holds where the number is not 0, and what holds at an accepted call where it is 0
 pub refused_has : {T A : Type 0} {n : ℕ} (a : Result T Refusal) → n ≡ answer_number a → OnErr a A → (n ≡ 0 → ⊥) → A
 refused_has (Ok x) e h z = absurd (z e)
@@ -51,4 +36,4 @@ refused_has (Err refusal) e h z = h
 
 pub accepted_has : {T A : Type 0} {n : ℕ} (a : Result T Refusal) → n ≡ answer_number a → OnOk a A → n ≡ 0 → A
 accepted_has (Ok x) e h z = h
-accepted_has (Err refusal) e h z = absurd (number_some refusal (sym e ∙ z))
+accepted_has (Err refusal) e h z = absurd (not_accepted refusal (sym e ∙ z))

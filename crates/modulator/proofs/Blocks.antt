@@ -337,10 +337,10 @@ first_due first slot bits =
     rw f
 
 -- it is refused, whatever room there is
-pub none_sent : (first : ℤ) (slot : ℕ) (bits : Option (List ℕ)) (r room : ℕ) (s : Sender) (out : List Float) → 1 ≤ r → Err r ≡ due_of first slot bits
+pub none_sent : (first : ℤ) (slot : ℕ) (bits : Option (List ℕ)) (r room : ℕ) (s : Sender) (out : List Float) → (r ≡ 0 → ⊥) → Err r ≡ due_of first slot bits
     → Wrote (block_call (due_after first slot bits) room s) 0 r s out out
 unfolding block_call parts_of start_with due_refusal
-none_sent first slot bits zero room s out h e = absurd (omega arith)
+none_sent first slot bits zero room s out h e = absurd (h refl)
 none_sent first slot bits (suc r) zero s out h e = rw (first_due first slot bits, ← e) (record { counted = refl; refused = refl; sent = refl; written = refl })
 none_sent first slot bits (suc r) (suc room) s out h e =
     rw (stopped (due_after first slot bits) room 0 r s (first_due first slot bits ∙ sym e)) (record { counted = refl; refused = refl; sent = refl; written = refl })

@@ -5,7 +5,7 @@ use Prim.Native.Nat.{ℕ}
 use Rattle.std.specs.Prelude.{Result, Ok, Err}
 use Rattle.dsp_types.specs.declared.ComplexSample.{ComplexSample}
 use Rattle.dsp_types.specs.declared.refusals.Refusal.{Refusal}
-use Rattle.mapper.proofs.Numbers.{refusal_of, refusal_back}
+use Rattle.dsp_types.proofs.Numbers.{refusal_of, refusal_back}
 use Rattle.modulator.specs.Sender.{SenderReply, sender_reply}
 
 answer_of : ℕ → List ComplexSample → Result ComplexSample Refusal

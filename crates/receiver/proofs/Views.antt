@@ -8,7 +8,8 @@ use Rattle.dsp_types.specs.declared.refusals.Refusal.{Refusal}
 use Rattle.dsp_types.specs.Answers.{number_of}
 use Rattle.slot_receiver.specs.Receiver.{Receiver}
 use Rattle.slot_receiver.specs.Calls.{Outcome, done, refused, sampled, sample_outcome}
-use Rattle.slot_receiver.proofs.Outcomes.{not_accepted, sample_refused, sample_accepted}
+use Rattle.dsp_types.proofs.Numbers.{not_accepted}
+use Rattle.slot_receiver.proofs.Outcomes.{sample_refused, sample_accepted}
 use Rattle.receiver.specs.Hearing.{Judges}
 use mathlib.Core.List.{List}
 use lib.Ieee.{Float}

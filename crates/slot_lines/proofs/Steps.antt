@@ -14,8 +14,7 @@ use lib.Signed.{lt_z}
 use lib.Ieee.{Float}
 use Rattle.std.specs.Prelude.{Option, None, Some, is_some}
 use Rattle.dsp_types.specs.declared.refusals.Refusal.{Refusal}
-use Rattle.dsp_types.specs.declared.refusals.Refusal.TheVariants.{BadSample, BadCounter, BadLength, BadBit, BadTraining, BadSlot, BadKind, PastCounter, NoSlot, NeedMoreData, NotFollowing}
-use Rattle.dsp_types.specs.Answers.{number_of}
+use Rattle.dsp_types.proofs.Numbers.{not_accepted}
 use Rattle.dsp_types.specs.declared.ComplexSample.{ComplexSample}
 use Rattle.dsp_types.specs.Samples.{silence}
 use Rattle.dsp_types.specs.Refusals.{accepted, last_counter, bad_counter, past_counter, beyond, out_of_count}
@@ -37,20 +36,7 @@ not_refused (Some refusal) e = cc
 
 pub is_refused : (r : Option Refusal) → is_some r ≡ true → refused_with r ≡ 0 → ⊥
 is_refused None e = cc
-is_refused (Some refusal) e = numbered refusal
-  where
-    numbered : (refusal : Refusal) → number_of refusal ≡ 0 → ⊥
-    numbered BadSample f = omega arith
-    numbered BadCounter f = omega arith
-    numbered BadLength f = omega arith
-    numbered BadBit f = omega arith
-    numbered BadTraining f = omega arith
-    numbered BadSlot f = omega arith
-    numbered BadKind f = omega arith
-    numbered PastCounter f = omega arith
-    numbered NoSlot f = omega arith
-    numbered NeedMoreData f = omega arith
-    numbered NotFollowing f = omega arith
+is_refused (Some refusal) e = not_accepted refusal
 
 -- ---- a zero in the place of a refused sample
 

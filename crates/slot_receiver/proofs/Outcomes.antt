@@ -1,10 +1,9 @@
 -- A call by its refusal: refused, all is as it was; else it comes to what its definition says. Assumes nothing.
 use mathlib.Core.Path.{◌≡◌, refl, sym}
-use native.Mathlib.Omega.{arith}
 use Rattle.std.specs.Prelude.{Result, Ok, Err}
 use Rattle.dsp_types.specs.declared.refusals.Refusal.{Refusal}
-use Rattle.dsp_types.specs.declared.refusals.Refusal.TheVariants.{BadSample, BadCounter, BadLength, BadBit, BadTraining, BadSlot, BadKind, PastCounter, NoSlot, NeedMoreData, NotFollowing}
 use Rattle.dsp_types.specs.Answers.{number_of, answer_number}
+use Rattle.dsp_types.proofs.Numbers.{not_accepted}
 use mathlib.Core.List.{List, []}
 use Prim.Native.Nat.{ℕ, zero, suc}
 use lib.IntN.{ℤ}
@@ -27,20 +26,6 @@ unless_refused {n} r lent o e h = rw (← e) (go n h)
 pub unless_accepted : {k : ℕ} (r : Receiver) (lent : List (List ℕ)) (o : Outcome) → k ≡ 0 → unless k r lent o ≡ o
 unfolding unless
 unless_accepted r lent o e = rw e
-
--- no refusal's number is 0
-pub not_accepted : (refusal : Refusal) → number_of refusal ≡ 0 → ⊥
-not_accepted BadSample e = omega (arith, e)
-not_accepted BadCounter e = omega (arith, e)
-not_accepted BadLength e = omega (arith, e)
-not_accepted BadBit e = omega (arith, e)
-not_accepted BadTraining e = omega (arith, e)
-not_accepted BadSlot e = omega (arith, e)
-not_accepted BadKind e = omega (arith, e)
-not_accepted PastCounter e = omega (arith, e)
-not_accepted NoSlot e = omega (arith, e)
-not_accepted NeedMoreData e = omega (arith, e)
-not_accepted NotFollowing e = omega (arith, e)
 
 -- by the answer that says whether it is refused
 module _ {A : Type 0} {k : ℕ} {answer : Result A Refusal} (r : Receiver) (lent : List (List ℕ)) (o : Outcome) (said : answer_number answer ≡ k) where

@@ -1,56 +1,17 @@
 -- A downlink builder's answer from its parts, and what its number and its bits are.
 use mathlib.Core.Path.{◌≡◌, refl, sym, ap, ◌∙◌}
-use mathlib.Core.Bool.{cond}
 use mathlib.Core.List.{List, [], ◌∷◌, ◌++◌}
 use Prim.Native.Nat.{ℕ, zero, suc}
 use Rattle.std.specs.Prelude.{Result, Ok, Err}
 use lib.IntN.{ℤ}
-use lib.Dec.{eqb}
-use native.Mathlib.Omega.{arith}
 use lib.ListN.{take, drop}
 use Rattle.dsp_types.specs.declared.refusals.Refusal.{Refusal}
-use Rattle.dsp_types.specs.declared.refusals.Refusal.TheVariants.{BadSample, BadCounter, BadLength, BadBit, BadTraining, BadSlot, BadKind, PastCounter, NoSlot, NeedMoreData, NotFollowing}
 use Rattle.dsp_types.specs.Answers.{number_of}
+use Rattle.dsp_types.proofs.Numbers.{not_accepted, refusal_of, refusal_back}
 use Rattle.slotter.specs.declared.Burst.{Burst}
 use Rattle.train_consts.specs.Training.{normal3}
 use Rattle.slotter.specs.Phases.{phase_sum, adjustment}
 use Rattle.slotter.specs.Bursts.{first_window, last_window, downlink, BuilderReply, builder_reply, refusal, burst_unless}
-
--- ---- the refusals by their numbers
-
--- the refusal with that number
-unfoldable pub refusal_of : ℕ → Refusal
-refusal_of n =
-    cond (eqb n 1) BadSample (cond (eqb n 2) BadCounter (cond (eqb n 3) BadLength (cond (eqb n 4) BadBit (cond (eqb n 5) BadTraining
-    (cond (eqb n 6) BadSlot (cond (eqb n 7) BadKind (cond (eqb n 10) PastCounter (cond (eqb n 11) NoSlot (cond (eqb n 12) NeedMoreData NotFollowing)))))))))
-
-pub refusal_back : (r : Refusal) → refusal_of (number_of r) ≡ r
-unfolding refusal_of
-refusal_back BadSample = refl
-refusal_back BadCounter = refl
-refusal_back BadLength = refl
-refusal_back BadBit = refl
-refusal_back BadTraining = refl
-refusal_back BadSlot = refl
-refusal_back BadKind = refl
-refusal_back PastCounter = refl
-refusal_back NoSlot = refl
-refusal_back NeedMoreData = refl
-refusal_back NotFollowing = refl
-
--- no refusal's number is 0
-pub number_positive : (r : Refusal) → number_of r ≡ 0 → ⊥
-number_positive BadSample e = absurd (omega (arith, e))
-number_positive BadCounter e = absurd (omega (arith, e))
-number_positive BadLength e = absurd (omega (arith, e))
-number_positive BadBit e = absurd (omega (arith, e))
-number_positive BadTraining e = absurd (omega (arith, e))
-number_positive BadSlot e = absurd (omega (arith, e))
-number_positive BadKind e = absurd (omega (arith, e))
-number_positive PastCounter e = absurd (omega (arith, e))
-number_positive NoSlot e = absurd (omega (arith, e))
-number_positive NeedMoreData e = absurd (omega (arith, e))
-number_positive NotFollowing e = absurd (omega (arith, e))
 
 -- ---- `builder_reply` tells all answers apart
 
@@ -82,7 +43,7 @@ built last fields e f g h p = rw (p, g, h, e, f)
 -- the refusal with the number n, or, where that is 0, the burst
 pub refuses : (r : Refusal) (n last : ℕ) (fields : List ℕ) → number_of r ≡ n → builder_reply (Err r) ≡ burst_unless n last fields
 unfolding builder_reply burst_unless
-refuses r zero last fields e = absurd (number_positive r e)
+refuses r zero last fields e = absurd (not_accepted r e)
 refuses r (suc n) last fields e = ap refusal e
 
 pub accepts : {t : BuilderReply} (n last : ℕ) (fields : List ℕ) → 0 ≡ n → t ≡ burst_unless 0 last fields → t ≡ burst_unless n last fields

@@ -6,12 +6,12 @@ use Rattle.std.specs.Prelude.{Result, Ok, Err}
 use Rattle.dsp_types.specs.declared.refusals.Refusal.{Refusal}
 use Rattle.dsp_types.specs.Answers.{number_of, answer_number}
 use Rattle.slotter.specs.Uplink.{UplinkReply, built, refused, uplink_reply, uplink_unless, uplink_number, uplink_bits}
-use Rattle.slotter.proofs.Answers.{refusal_of, refusal_back, number_positive}
+use Rattle.dsp_types.proofs.Numbers.{not_accepted, refusal_of, refusal_back}
 
 -- the refusal with the number n, or, where that is 0, the burst
 pub uplink_refuses : (r : Refusal) (n : ℕ) (fields : List ℕ) → number_of r ≡ n → uplink_reply (Err r) ≡ uplink_unless n fields
 unfolding uplink_reply uplink_unless
-uplink_refuses r zero fields e = absurd (number_positive r e)
+uplink_refuses r zero fields e = absurd (not_accepted r e)
 uplink_refuses r (suc n) fields e = ap refused e
 
 pub uplink_accepts : {bits : List ℕ} (n : ℕ) (fields : List ℕ) → 0 ≡ n → bits ≡ fields → uplink_reply (Ok bits) ≡ uplink_unless n fields

@@ -2,7 +2,8 @@
 use Rattle.std.proofs.Common.{ap, ◌∙◌}
 use Rattle.std.proofs.lemmas.Result.{err_from_is_err_and}
 use Rattle.slotter.specs.Bursts.{normal_fields, burst_unless, normal_burst, normal_cut}
-use Rattle.slotter.proofs.Answers.{number_positive, refuses, accepts}
+use Rattle.dsp_types.proofs.Numbers.{not_accepted}
+use Rattle.slotter.proofs.Answers.{refuses, accepts}
 use Rattle.slotter.proofs.Refusal.{blocks_before, blocks_right}
 use Rattle.slotter.proofs.build_ndb.Goals as goal
 
@@ -10,7 +11,7 @@ pub returns-in_err-block_refusal : goal.returns-in_err-block_refusal
 unfolding normal_burst
 returns-in_err-block_refusal c =
     let p = err_from_is_err_and c.from_residual.result c.from_residual.ensures.1 in
-    rw (p.1, p.2) (refuses _ _ normal_cut _ (blocks_before 216 _ _ _ _ (number_positive _) c.in_err-block_refusal.ensures.number))
+    rw (p.1, p.2) (refuses _ _ normal_cut _ (blocks_before 216 _ _ _ _ (not_accepted _) c.in_err-block_refusal.ensures.number))
 
 pub returns-in_err-sequence : goal.returns-in_err-sequence
 unfolding normal_burst

@@ -12,7 +12,7 @@ use Rattle.slot_receiver.specs.Receiver.{Receiver, valid_count}
 use Rattle.slot_receiver.specs.Calls.{sample_refusal}
 use Rattle.slot_receiver.specs.View.{receiver_from}
 use Rattle.slot_receiver.specs.Bounds.{Within}
-use Rattle.slot_receiver.proofs.Outcomes.{not_accepted}
+use Rattle.dsp_types.proofs.Numbers.{not_accepted}
 use Rattle.slot_receiver.proofs.Signed.{plus_is, within_pos}
 use Rattle.receiver.specs.Feed.{interleaved, stopped, feed_of}
 use Rattle.receiver.specs.Hearing.{Judges}

@@ -5,7 +5,7 @@ use mir.Syntax.{w64}
 use mir.Val.{SFits}
 use mir.ValLaws.{to_z-of_z}
 use Rattle.dsp_types.specs.Answers.{number_of}
-use Rattle.mapper.proofs.Places.{some_number}
+use Rattle.dsp_types.proofs.Numbers.{not_accepted}
 use Rattle.modulator.specs.Sender.{sender_of}
 use Rattle.modulator.proofs.Blocks.{none_sent, opened, filled_wrote, ended_wrote}
 use Rattle.modulator.proofs.sender.Modulator.block.Goals as goal
@@ -13,7 +13,7 @@ use Rattle.modulator.proofs.sender.Modulator.block.Goals as goal
 pub returns-in-Err-clause-block : goal.returns-in-Err-clause-block
 returns-in-Err-clause-block c =
     let a = c.args in
-    none_sent a.sample_counter.0 a.slot.0 (option_copied a.bits) (number_of c.in-Err.refusal) _ (sender_of a.self.now a.mapper.now) a.out.now (some_number c.in-Err.refusal) c.in-Err.ensures
+    none_sent a.sample_counter.0 a.slot.0 (option_copied a.bits) (number_of c.in-Err.refusal) _ (sender_of a.self.now a.mapper.now) a.out.now (not_accepted c.in-Err.refusal) c.in-Err.ensures
 
 pub returns-then-room-left-clause-block : goal.returns-then-room-left-clause-block
 returns-then-room-left-clause-block c =
