@@ -79,6 +79,7 @@ fn burst_slot(burst_type: BurstType, characters: &[u8]) -> Result<LineSlot, Comp
 }
 
 // The slot of a line without its line end, or what is wrong with the line.
+#[tactic(auto, unfolding(crate::specs::Lines::asked_of, crate::specs::Lines::sent_for, crate::specs::Lines::slots_for, crate::specs::Lines::complaint_for))]
 pub fn slot_of(line: &[u8]) -> Result<LineSlot, Complaint>
     ensures slots { slots_of result ≡ slots_for (sent_for (asked line.now)) }
     ensures complaint { complaint_in result ≡ complaint_for (sent_for (asked line.now)) }
