@@ -307,7 +307,7 @@ counter_taken r x c slot subslot1 subslot2 p s e q =
 
 -- ---- two refused calls
 
-pub both_refused : {A B E D : Type 0} {a b c : D} (x : Result A E) (y : Result B E) → OnErr x (b ≡ a) → OnErr y (c ≡ b) → OnErr x (OnErr y (c ≡ a))
-both_refused (Ok x) y e f = tt
-both_refused (Err m) (Ok y) e f = tt
-both_refused (Err m) (Err n) e f = f ∙ e
+pub both_refused : {A B E D : Type 0} (a b c : D) (x : Result A E) (y : Result B E) → OnErr x (b ≡ a) → OnErr y (c ≡ b) → OnErr x (OnErr y (c ≡ a))
+both_refused a b c (Ok x) y e f = tt
+both_refused a b c (Err m) (Ok y) e f = tt
+both_refused a b c (Err m) (Err n) e f = f ∙ e

@@ -19,7 +19,7 @@ pub record Told : Type 0 where
   pub answer : List ℕ
 
 unfoldable pub told : Judged → Told
-told j = record { number = answer_number j.built; finding = j.finding; refusal = j.refusal; answer = j.answer }
+told j = record { number = answer_number j.built; finding = j.finding; refusal = answer_number j.judged; answer = j.answer }
 
 -- the builder's number, and what the finder and the logger's call, with six zero bytes lent, answer of a window of that kind
 unfoldable pub judged_of : (number kind : ℕ) (type : SlotType) (window : List ℕ) → Told

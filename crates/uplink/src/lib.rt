@@ -10,7 +10,7 @@ ghost use Rattle.slotter.specs.Uplink.{uplink_reply, uplink_number, uplink_bits,
 ghost use Rattle.uplink.specs.Judging.{told, judged_of, judged_normal, judged_control, NormalFound, ControlFound};
 
 use burst_finder::{Finding, SlotType, check_slot};
-use dsp_types::{Refusal, answer_number};
+use dsp_types::Refusal;
 use logger::judge;
 pub use receive::{Received, sample_and_take};
 use slotter::{build_cub, build_nub, place};
@@ -22,7 +22,7 @@ pub struct Judged {
     pub built: Result<(), Refusal>,
     pub finding: Finding,
     // What the logger's call returns, and its six bytes.
-    pub refusal: u32,
+    pub judged: Result<(), Refusal>,
     pub answer: [u8; 6],
 }
 
@@ -53,11 +53,11 @@ fn judge_placed<const N: usize, const W: usize>(
     let built = place_built(burst, offset, &mut window);
     let finding = check_slot(slot_type, &window);
     let mut answer = [0; 6];
-    let refusal = answer_number(&judge(kind, &window, &mut answer));
+    let judged = judge(kind, &window, &mut answer);
     Judged {
         built,
         finding,
-        refusal,
+        judged,
         answer,
     }
 }

@@ -11,11 +11,11 @@ unfolding told judged_of
 returns g c =
     let a = c.args in
     let p = c.place_built-built in
-    let j = c.judge.ensures in
+    let j = c.judge-judged.ensures in
     rw (
       p.ensures.number ∙ told_uplink_number a.burst,
       c.check_slot-finding.ensures,
-      c.answer_number-refusal.ensures ∙ j.refusal,
+      j.refusal,
       j.answer,
       window_is a.burst g.row.W a.offset p.new.window (rw (length-replicate {A = ℕ} g.row.W 0) at p.ensures.window),
     )

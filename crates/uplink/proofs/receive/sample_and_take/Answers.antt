@@ -20,7 +20,7 @@ returns c =
       taken = answer;
       receiver = taken.receiver ∙ ap (λ (r : Receiver). (take_outcome r a.slot.now a.subslot1.now a.subslot2.now).receiver) heard.receiver;
       lent = lent;
-      refused = both_refused c.sample-sampled.result c.take_demodulated_slot-taken.result heard.refused taken.refused;
+      refused = both_refused _ _ _ c.sample-sampled.result c.take_demodulated_slot-taken.result heard.refused taken.refused;
       counter = counter_taken (view_of a.receiver.now) a.input a.counter.0 a.slot.now a.subslot1.now a.subslot2.now answer;
       found = bursts_taken (view_of a.receiver.now) a.input a.counter.0 a.slot.now a.subslot1.now a.subslot2.now answer lent;
     }
