@@ -70,7 +70,7 @@ fn even_placings(n: usize, m: usize) -> usize
 }
 
 // The even placing with the fewest differences, the earliest on a tie, where it has fewer than the limit; else place 0 and the limit. A low limit makes
-// for a quick search: a placing is left where it can't be better any more.
+// for a quick search: a placing is left where it can't be better any more. The loops are 01's: the inner one is left by label.
 fn find_sequence(bits: &[u8], sequence: &[u8], limit: usize) -> Found
     requires { limit ≤ length sequence.now }
     ensures { result ≡ below limit (find_sequence bits.now sequence.now) }

@@ -39,7 +39,8 @@ fn store_run(ring: &mut [f32; 2048], at: usize, from: &[f32]) -> usize
     (at % 2048 + from.len()) % 2048
 }
 
-// Writes `from`, oldest first, into a ring whose newest stands at `at`, and returns where the newest then stands. It is stored run by run.
+// Writes `from`, oldest first, into a ring whose newest stands at `at`, and returns where the newest then stands. It is stored run by run,
+// since it may be longer than the ring.
 pub fn store(ring: &mut [f32; 2048], at: usize, from: &[f32]) -> usize
     ensures index { result ≡ (at % 2048 + length from.now) % 2048 }
     ensures held { held_in ring.new result ≡ held_after (held_in ring.old at) from.now }

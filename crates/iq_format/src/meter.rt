@@ -147,6 +147,7 @@ pub fn level(parts: &[f32]) -> u32
 {
     let peak = peak(parts);
     let mut level: u32 = 0;
+    // By index: what a step is depends on its place.
     for k in 0..STEPS {
         if peak < step(k) {
             level += 1;

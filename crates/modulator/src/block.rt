@@ -68,7 +68,8 @@ fn fill(
     *mapper = next;
 }
 
-// Writes samples to the start of a buffer, re and im in turn.
+// Writes samples to the start of a buffer, re and im in turn. By index: of what `chunks_exact_mut` lends, nothing is known after the
+// loop.
 fn interleave(re: &[f32], im: &[f32], out: &mut [f32])
     requires { (length re.now ≡ length im.now) × (2 * length re.now ≤ length out.old) }
     ensures { out.new ≡ start_with (parts_of (samples_of re.now im.now)) out.old }

@@ -26,7 +26,8 @@ pub struct Fed {
     pub stop: Stop,
 }
 
-// Writes the parts of samples from the one numbered `at` on, at most so many, up to one that is too large. Returns how many.
+// Writes the parts of samples from the one numbered `at` on, at most so many, up to one that is too large. Returns how many. By index: of
+// two rows that are written through one zip, nothing is known after the loop.
 fn parts_of(samples: &[f32], at: usize, most: usize, re: &mut [f32], im: &mut [f32]) -> usize
     requires { (at ≤ length samples.now / 2) × (length re.old ≡ 512) × (length im.old ≡ 512) }
     ensures few { (result ≤ most) × (result ≤ 512) × (at + result ≤ length samples.now / 2) }
