@@ -14,7 +14,6 @@ use Rattle.dsp_types.specs.Refusals.{accepted, wrong_length, not_bits}
 use Rattle.dsp_types.proofs.Laws.{neither}
 use Rattle.train_consts.specs.Training.{normal1, normal2, extended, tail}
 use Rattle.burst_finder.specs.declared.Finding.{Finding}
-use Rattle.burst_finder.specs.declared.SlotType.{SlotType}
 use Rattle.burst_finder.specs.declared.SlotType.TheVariants.{UlFull, UlSub}
 use Rattle.burst_finder.specs.Search.{errors_at}
 use Rattle.burst_finder.specs.Slots.{check_slot, get_burst}
