@@ -66,10 +66,8 @@ fn with_burst(text: Text, told: RxBurst, lent: &Lent) -> Text {
 
 // Whether the bytes behind a burst in a slice of that length are 0.
 fn is_padded(told: RxBurst, lent: &Lent, len: usize) -> bool {
-    is_all(
-        block_text::behind(text::front(lent, len), told.burst_len),
-        0,
-    )
+    let bytes = text::front(lent, len);
+    bytes.len() < told.burst_len || is_all(&bytes[told.burst_len..], 0)
 }
 
 // The text with the slot's number, and the counter behind it where it is told.
