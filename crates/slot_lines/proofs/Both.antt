@@ -1,7 +1,7 @@
 -- A step of both links prints the first of what both print, and what is left prints the rest. Assumes nothing.
 use Prim.Native.Nat.{ℕ, zero, suc, ◌+◌, ◌*◌, ◌-◌, ◌/◌, ◌<◌, ◌≤◌, min}
 use mathlib.Core.Path.{◌≡◌, refl, sym, ap, ◌∙◌}
-use mathlib.Core.Bool.{Bool, true, false, cond, not}
+use mathlib.Core.Bool.{Bool, true, false, not}
 use mathlib.Core.List.{List, [], ◌∷◌, ◌++◌, append_assoc, append-nil}
 use native.Mathlib.Omega.{arith}
 use lib.IntN.{ℤ, pos, ◌+ℤ◌}
@@ -14,16 +14,12 @@ use lib.Ieee.{Float}
 use Rattle.dsp_types.specs.declared.ComplexSample.{ComplexSample}
 use Rattle.dsp_types.proofs.IntLaws.{sum, same}
 use Rattle.dsp_types.proofs.Laws.{drop_take}
-use borrow.Author.Tests.{ne_eqb, eqb-true}
-use lib.Dec.{eqb}
-use Rattle.slot_receiver.specs.declared.Mode.TheVariants.{Idle, DlUnsynchronized, Dl, Ul}
 use Rattle.slot_receiver.specs.Receiver.{Receiver}
-use Rattle.slot_receiver.specs.View.{mode_of}
 use Rattle.receiver.specs.Feed.{interleaved, feed_of}
 use Rattle.slot_text.specs.declared.Form.{Form}
 use Rattle.slot_text.specs.declared.Style.{Style}
 use Rattle.slot_lines.specs.Blocks.{line_of, hear_one, Step, stretch_of, stretch_by, mended_by, step_of}
-use Rattle.slot_lines.specs.Links.{is_uplink, down_style, up_style, follow_if, begins_if, still_begins, shown_of, UpPrinted, up_printed, both_printed, Both, rest_printed, BothStep, lead_step, catch_up_step, step_by, both_step, both_of, both_made}
+use Rattle.slot_lines.specs.Links.{down_style, up_style, follow_if, begins_if, still_begins, shown_of, UpPrinted, up_printed, both_printed, Both, rest_printed, BothStep, lead_step, catch_up_step, step_by, both_step, both_of, both_made}
 use Rattle.slot_lines.specs.declared.links.Links.{Links}
 use Rattle.slot_lines.specs.declared.links.LinksHeard.{LinksHeard}
 use Rattle.slot_lines.proofs.Steps.{counts, counts_none, First, on, ends, first, step_goes, samples_count}
