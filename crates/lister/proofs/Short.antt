@@ -6,10 +6,8 @@ use native.Mathlib.Omega.{arith}
 use lib.IntN.{ℤ, pos, negsuc}
 use lib.ListN.{length, take, drop, length-append, length-map, length-drop, length-take, get_or}
 use lib.Seq.{slice, take-add, drop_at, length-take-le}
-use Rattle.io.specs.Counts.{IsPrefixLen}
 use Rattle.slotter.specs.Bursts.{BuilderReply}
-use Rattle.text.specs.declared.Text.{Text}
-use Rattle.text.specs.Text.{text_of, ascii, character_of, trimmed}
+use Rattle.text.specs.Text.{ascii, character_of, trimmed}
 use Rattle.text.proofs.Decimal.{length_decimal}
 use Rattle.text.proofs.Names.{length_name}
 use Rattle.block_text.specs.BlockText.{letter_type, answer_of}
@@ -48,11 +46,6 @@ length_listing input = go (trimmed 10 input)
     go : (l : List ℕ) → length (listed l) ≤ 2048
     go [] = length_refusal 3
     go (letter ∷ characters) = length_answer (letter_type letter) (answer_of (letter_type letter) characters)
-
--- what `Text::append` says of its length, as a count
-pub counts : (t : Text) → t.len ≡ length (text_of t) → IsPrefixLen t.len t.bytes
-unfolding text_of
-counts t e = (omega (arith, e, length-take t.len t.bytes), e)
 
 -- a part by its place and its length
 pub part : (f n : ℕ) (l : List ℕ) → f ≤ length l → slice f (f + n) l ≡ take n (drop f l)

@@ -2,8 +2,7 @@
 #![tactic(auto)]
 
 ghost use Rattle.std.specs.Prelude.{◌≡◌, ℕ, List, [], ◌∷◌, ◌++◌, length};
-ghost use Rattle.io.specs.Counts.{IsPrefixLen};
-ghost use Rattle.text.specs.Text.{text_of, cut};
+ghost use Rattle.text.specs.Text.{cut};
 ghost use Rattle.dsp_types.specs.Answers.{number_of};
 ghost use Rattle.slotter.specs.Bursts.{builder_reply};
 ghost use Rattle.block_text.specs.BlockText.{type_or_0};
@@ -18,7 +17,7 @@ use text::Text;
 
 // The text with a whole number in decimal behind it.
 fn with_signed(text: Text, n: i32) -> Text
-    ensures { text_of result ≡ cut (text_of text ++ signed_decimal n) }
+    ensures { result ≡ cut (text ++ signed_decimal n) }
 {
     if n < 0 {
         text.append(b"-").decimal((-1 - n) as u64 + 1)
@@ -29,7 +28,7 @@ fn with_signed(text: Text, n: i32) -> Text
 
 // What is printed of a refusal.
 fn refused(refusal: Refusal) -> Text
-    ensures { IsPrefixLen result.len result.bytes × (text_of result ≡ cut (refusal_line (number_of refusal))) }
+    ensures { result ≡ cut (refusal_line (number_of refusal)) }
 {
     Text::new()
         .append(b"refused=")
@@ -39,7 +38,7 @@ fn refused(refusal: Refusal) -> Text
 
 // What is printed of a burst.
 fn built(burst_type: u32, first: i32, last: i32, burst: [u8; 510]) -> Text
-    ensures { IsPrefixLen result.len result.bytes × (text_of result ≡ cut (burst_lines burst_type first last burst)) }
+    ensures { result ≡ cut (burst_lines burst_type first last burst) }
 {
     let bits: &[u8] = &burst;
     let adj_first = &bits[12..14];
@@ -56,7 +55,7 @@ fn built(burst_type: u32, first: i32, last: i32, burst: [u8; 510]) -> Text
 
 // What is printed of an answer to a letter that asks for the type with that number.
 fn print(burst_type: u32, answer: Result<Burst, Refusal>) -> Text
-    ensures { IsPrefixLen result.len result.bytes × (text_of result ≡ cut (listed_answer burst_type (builder_reply answer))) }
+    ensures { result ≡ cut (listed_answer burst_type (builder_reply answer)) }
 {
     match answer {
         Ok(burst) => built(burst_type, burst.first_sum, burst.last_sum, burst.bits),
@@ -76,7 +75,7 @@ fn type_number(burst_type: Option<BurstType>) -> u32
 
 // The listing of an input of any length.
 fn listing(input: &[u8]) -> Text
-    ensures { IsPrefixLen result.len result.bytes × (text_of result ≡ cut (listing input.now)) }
+    ensures { result ≡ cut (listing input.now) }
 {
     let Some((letter, characters)) = text::trimmed(input, b'\n').split_first() else {
         return refused(Refusal::BadLength);
@@ -134,7 +133,7 @@ impl Input {
 
     // The listing of all the pieces.
     pub fn listed(&self) -> Text
-        ensures { IsPrefixLen result.len result.bytes × (text_of result ≡ listing (input_bytes self.now)) }
+        ensures { result ≡ listing (input_bytes self.now) }
     {
         listing(self.bytes.as_slice())
     }

@@ -7,12 +7,10 @@ use streams::Host;
 
 fn list<H: Host>(rt: &H, input: &Input) {
     let text = input.listed();
-    let bytes = text.bytes;
-    let len = text.len;
     streams::write_or_tell(
         rt,
         &mut rt.output(),
-        &bytes[..len],
+        text.as_bytes(),
         b"listing: the listing cannot be written",
     );
 }

@@ -46,10 +46,10 @@ impl Output {
 
     pub(crate) fn add<H: Host>(self, rt: &H, block: &mut Block, text: Text) -> Output {
         let room = self.with_room(rt, &*block);
-        let bytes = text.bytes;
-        put(block, room.len, text::front(&bytes, text.len), 0);
+        let bytes = text.as_bytes();
+        put(block, room.len, bytes, 0);
         Output {
-            len: room.len.wrapping_add(text.len),
+            len: room.len.wrapping_add(bytes.len()),
             is_broken: room.is_broken,
         }
     }

@@ -11,7 +11,6 @@ use Rattle.slot_receiver.specs.Windows.{hands_over}
 use Rattle.slot_receiver.specs.Calls.{Reply, refused, done, took, Outcome, sample_outcome, take_outcome}
 use Rattle.receiver.specs.Feed.{Stopped, at_end, at_slot, at_refusal, feed_of}
 use Rattle.text.specs.declared.Text.{Text}
-use Rattle.text.specs.Text.{text_of}
 use Rattle.slot_text.specs.Lines.{slot_line}
 use Rattle.slot_text.specs.declared.Style.{Style}
 use Rattle.slot_lines.specs.declared.listen.Heard.{Heard}
@@ -98,7 +97,7 @@ refused_with (Some refusal) = number_of refusal
 -- a line's bytes, none where there is none
 abbrev pub line_of : Option Text → List ℕ
 line_of None = []
-line_of (Some line) = text_of line
+line_of (Some line) = line
 
 -- the step that was made, with the receiver after it
 unfoldable pub step_made : Heard → Receiver → Step

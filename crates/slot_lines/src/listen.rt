@@ -1,6 +1,5 @@
 // Samples, heard up to a slot.
 ghost use Rattle.std.specs.Prelude.{◌≡◌, List, ◌/◌, ◌<◌, ◌≤◌, length, Float};
-ghost use Rattle.text.specs.Text.{text_of};
 ghost use Rattle.receiver.specs.Feed.{interleaved};
 ghost use Rattle.receiver.specs.View.{receiver_of};
 ghost use Rattle.slot_lines.specs.Blocks.{take_next, taken_line, printed, stretch_of, step_of, from_step, step_made};
@@ -20,7 +19,7 @@ pub struct Heard {
 
 // Takes the slot that waits.
 fn take_line(state: &mut State, style: Style) -> Text
-    ensures line { (re im abs : List Float) → text_of result ≡ taken_line style (take_next (receiver_of state.old re im abs)).reply }
+    ensures line { (re im abs : List Float) → result ≡ taken_line style (take_next (receiver_of state.old re im abs)).reply }
     ensures receiver { (re im abs : List Float) → receiver_of state.new re im abs ≡ (take_next (receiver_of state.old re im abs)).receiver }
 {
     let mut slot = [0u8; 510];

@@ -1,6 +1,6 @@
 // The line of a slot.
 ghost use Rattle.std.specs.Prelude.{◌≡◌, [], ◌++◌};
-ghost use Rattle.text.specs.Text.{text_of, cut};
+ghost use Rattle.text.specs.Text.{cut};
 ghost use Rattle.slot_text.specs.Fields.{fields_text};
 ghost use Rattle.slot_text.specs.Lines.{link_fields, bits_fields, burst_fields, half_fields, slot_line, burst_read, slot_read};
 
@@ -18,7 +18,7 @@ struct Burst<'a> {
 impl Style {
     #[tactic(auto, unfolding(crate::specs::Lines::link_fields, crate::specs::Fields::fields_text, text::specs::Text::ascii))]
     fn with_link(self, text: Text) -> Text
-        ensures { text_of result ≡ cut (text_of text ++ fields_text self.form (link_fields self.link)) }
+        ensures { result ≡ cut (text ++ fields_text self.form (link_fields self.link)) }
     {
         match self.link {
             Link::Alone => text.append(b""),
@@ -28,7 +28,7 @@ impl Style {
     }
 
     fn with_bits(self, text: Text, prefix: &[u8], bits: &[u8]) -> Text
-        ensures { text_of result ≡ cut (text_of text ++ fields_text self.form (bits_fields self.has_bits prefix.now bits.now)) }
+        ensures { result ≡ cut (text ++ fields_text self.form (bits_fields self.has_bits prefix.now bits.now)) }
     {
         if bits.len() == 0 {
             return text.append(b"");
@@ -43,7 +43,7 @@ impl Style {
 
     // With a burst's type, wrong training bits and bits.
     fn with_burst(self, text: Text, prefix: &[u8], burst: Burst) -> Text
-        ensures { text_of result ≡ cut (text_of text ++ fields_text self.form (burst_fields self.has_bits prefix.now (burst_read burst.entry.told burst.entry.bits.now))) }
+        ensures { result ≡ cut (text ++ fields_text self.form (burst_fields self.has_bits prefix.now (burst_read burst.entry.told burst.entry.bits.now))) }
     {
         let told = burst.told;
         let typed = self.form.with_type(text, prefix, told.train_type);
@@ -55,7 +55,7 @@ impl Style {
 
     // With the bursts of an uplink slot's halves.
     fn with_halves(self, text: Text, first: Burst, second: Burst) -> Text
-        ensures { text_of result ≡ cut (text_of text ++ fields_text self.form (half_fields self.has_bits self.link (burst_read first.entry.told first.entry.bits.now) (burst_read second.entry.told second.entry.bits.now))) }
+        ensures { result ≡ cut (text ++ fields_text self.form (half_fields self.has_bits self.link (burst_read first.entry.told first.entry.bits.now) (burst_read second.entry.told second.entry.bits.now))) }
     {
         match self.link {
             Link::Alone => text.append(b""),
@@ -70,7 +70,7 @@ impl Style {
 
 // A slot's number, closing counter and bursts, with the bits of each.
 pub fn slot_line(style: Style, slot: RxSlot, bits: &[u8], bits1: &[u8], bits2: &[u8]) -> Text
-    ensures { text_of result ≡ cut (slot_line style.form style.has_bits style.link (slot_read slot bits.now bits1.now bits2.now)) }
+    ensures { result ≡ cut (slot_line style.form style.has_bits style.link (slot_read slot bits.now bits1.now bits2.now)) }
 {
     let form = style.form;
     let full = Burst {

@@ -4,11 +4,10 @@ use mathlib.Core.Logic.{⊎_elim}
 use mathlib.Core.List.{List, ◌++◌, append_assoc}
 use Prim.Native.Nat.{ℕ, ◌≤◌, ◌<◌}
 use native.Mathlib.Omega.{arith}
-use lib.ListN.{length, length-take}
+use lib.ListN.{length}
 use lib.Seq.{take_all, take-take, take-append-le, length-take-le}
 use Rattle.dsp_types.proofs.RingLaws.{le_or_lt}
-use Rattle.text.specs.declared.Text.{Text}
-use Rattle.text.specs.Text.{text_of, cut}
+use Rattle.text.specs.Text.{cut}
 
 -- a short text is not cut
 pub short : (a : List ℕ) → length a ≤ 2048 → cut a ≡ a
@@ -31,8 +30,3 @@ then a b e f = f ∙ rw e (cut_append a b)
 -- two pieces behind a text are one
 pub onto : {u v : List ℕ} (t a b : List ℕ) → u ≡ cut (t ++ a) → v ≡ cut (u ++ b) → v ≡ cut (t ++ (a ++ b))
 onto t a b e f = then (t ++ a) b e f ∙ ap cut (append_assoc t a b)
-
--- what a text holds is cut already
-pub held : (t : Text) → length t.bytes ≡ 2048 → text_of t ≡ cut (text_of t)
-unfolding text_of
-held t h = sym (short (text_of t) (omega (arith, length-take t.len t.bytes)))

@@ -5,8 +5,9 @@ use mathlib.Core.List.{List, [], ◌∷◌, ◌++◌, map}
 use Prim.Native.Nat.{ℕ, ◌+◌, ◌-◌, ◌≤◌, ◌<◌, min}
 use native.Mathlib.Omega.{arith}
 use native.Mathlib.Numerals.{add-one}
-use lib.ListN.{get_or, length, set, take, length-map, get_or-map}
-use lib.Seq.{take_all, take-suc, take-suc-set, take-take, take-append-le, take-append-add, length-take-le}
+use lib.ListN.{get_or, length, set, take, drop, replicate, length-map, get_or-map}
+use lib.Seq.{drop-drop, take_all, take-suc, take-suc-set, take-take, take-append-le, take-append-add, length-take-le}
+use Rattle.std.proofs.lemmas.List.{drop-replicate}
 use Rattle.dsp_types.proofs.RingLaws.{le_or_lt}
 use Rattle.text.specs.Text.{cut, character_of}
 
@@ -18,18 +19,18 @@ take_least l n =
     (λ (h : n < length l). let e : min (length l) n ≡ n = omega arith in rw e)
     (le_or_lt (length l) n)
 
-module _ (bytes s : List ℕ) (n len count : ℕ) (h : length bytes ≡ 2048) (l : len ≡ min n 2048) (c : count ≡ min (length s) (2048 - len)) where
-  held : take len bytes ≡ take n bytes
-  held =
-      let e : len ≡ min (length bytes) n = omega arith in
-      rw e (take_least bytes n)
+pub appended : {w t : List ℕ} (bytes s : List ℕ) (len count : ℕ) → len ≤ length bytes → count ≡ min (length s) (2048 - len) → len ≤ 2048 → take len bytes ≡ t
+    → w ≡ take len bytes ++ take count s → w ≡ cut (t ++ s)
+unfolding cut
+appended bytes s len count h c l k e =
+    let m : 2048 ≡ length (take len bytes) + (2048 - len) = omega (arith, length-take-le len bytes h) in
+    e ∙ rw (c, take_least s (2048 - len), ← k) (sym (ap (λ (x : ℕ). take x (take len bytes ++ s)) m ∙ take-append-add (take len bytes) s (2048 - len)))
 
-  pub appended : {w : List ℕ} → w ≡ take len bytes ++ take count s → w ≡ cut (take n bytes ++ s)
-  unfolding cut
-  appended e =
-      let k : length (take len bytes) ≡ len = length-take-le len bytes (omega arith) in
-      let m : 2048 ≡ length (take len bytes) + (2048 - len) = omega (arith, k) in
-      e ∙ rw (← held, c, take_least s (2048 - len)) (sym (ap (λ (x : ℕ). take x (take len bytes ++ s)) m ∙ take-append-add (take len bytes) s (2048 - len)))
+-- what is behind is 0 still
+pub zeros_behind : {w : List ℕ} (bytes : List ℕ) (len count : ℕ) → drop len bytes ≡ replicate (2048 - len) 0 → w ≡ drop (len + count) bytes → w ≡ replicate (2048 - (len + count)) 0
+zeros_behind bytes len count z e =
+    let m : 2048 - len - count ≡ 2048 - (len + count) = omega arith in
+    e ∙ rw (← drop-drop count len bytes, z, drop-replicate {X = ℕ} count (2048 - len) 0) (ap (λ (n : ℕ). replicate n 0) m)
 
 -- bytes that are cut off need not be there
 pub cut_least : (t s : List ℕ) (n : ℕ) → n ≡ min (length s) 2048 → cut (t ++ take n s) ≡ cut (t ++ s)

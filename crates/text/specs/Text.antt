@@ -2,7 +2,6 @@
 use Rattle.std.specs.Prelude.{ℕ, zero, suc, ◌+◌, ◌/◌, ◌%◌, cond, List, [], ◌∷◌, ◌++◌, eqb, ltb, take}
 use Prim.Native.Char.{code}
 use Prim.Native.String.{String}
-use Rattle.text.specs.declared.Text.{Text}
 
 -- a text as bytes
 unfoldable pub ascii : String → List ℕ
@@ -29,10 +28,6 @@ type_name type =
     (cond (eqb type 2) (ascii "normal2")
     (cond (eqb type 3) (ascii "extended")
     (cond (eqb type 4) (ascii "sync") (ascii "none"))))
-
--- the bytes of a text
-unfoldable pub text_of : Text → List ℕ
-text_of t = take t.len t.bytes
 
 -- what a text holds of bytes
 unfoldable pub cut : List ℕ → List ℕ

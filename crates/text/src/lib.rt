@@ -1,16 +1,33 @@
 // A line of text, made piece by piece: at most 2,048 bytes, what is behind them is cut off.
 #![tactic(auto)]
 
-ghost use Rattle.std.specs.Prelude.{◌≡◌, [], ◌++◌, map, ◌≤◌, length, take};
-ghost use Rattle.text.specs.Text.{text_of, cut, decimal, character_of, type_name, trimmed};
+ghost use Rattle.std.specs.Prelude.{◌≡◌, [], ◌++◌, map, take};
+ghost use Rattle.text.specs.Text.{cut, decimal, character_of, type_name, trimmed};
 
+use std::marker::Model;
 use streams::Host;
 
-// The first len of the bytes; a larger len counts as 2,048.
+// The first len of the bytes, and 0 behind them. No heap: the bytes have a fixed place.
 #[derive(Clone, Copy)]
 pub struct Text {
-    pub bytes: [u8; 2048],
-    pub len: usize,
+    bytes: [u8; 2048],
+    len: usize,
+}
+
+impl Model for Text {
+    ghost use Rattle.std.specs.Prelude.{◌≡◌, ℕ, ◌-◌, ◌≤◌, List, ◌++◌, length, take, drop, replicate, refl};
+    ghost use Rattle.std.proofs.Common.{arith, length-take-le};
+    ghost use Rattle.std.proofs.lemmas.List.{take-append-drop};
+
+    ghost Value = { List ℕ };
+
+    ghost view = { λ t. take t.len t.bytes };
+
+    ghost invariant = { λ t. (length t.bytes ≡ 2048) × ((t.len ≤ 2048) × (drop t.len t.bytes ≡ replicate (2048 - t.len) 0)) };
+
+    ghost inverse = { λ l. record { bytes = l ++ replicate (2048 - length l) 0; len = length l } };
+
+    ghost inverse_ok = { λ t h. rw (length-take-le t.len t.bytes (omega (arith, h)), ← h.1.1, take-append-drop t.len t.bytes) refl };
 }
 
 // The first len bytes, or all where there are fewer.
@@ -40,10 +57,8 @@ fn character_of(bit: u8) -> u8
 }
 
 impl Text {
-    #[tactic(auto, unfolding(crate::specs::Text::text_of))]
     pub fn new() -> Text
-        ensures result_value { text_of result ≡ [] }
-        ensures len_value { result.len ≡ 0 }
+        ensures { result ≡ [] }
     {
         Text {
             bytes: [0; 2048],
@@ -52,12 +67,11 @@ impl Text {
     }
 
     // With the bytes s behind it.
-    #[tactic(auto, unfolding(crate::specs::Text::text_of, crate::specs::Text::cut))]
+    #[tactic(auto, unfolding(crate::specs::Text::cut))]
     pub fn append(mut self, s: &[u8]) -> Text
-        ensures result_value { text_of result ≡ cut (text_of self ++ s.now) }
-        ensures len_bound { (result.len ≤ 2048) × (result.len ≡ length (text_of result)) }
+        ensures { result ≡ cut (self ++ s.now) }
     {
-        let len = self.len.min(2048);
+        let len = self.len;
         let count = s.len().min(2048 - len);
         self.bytes[len..len + count].copy_from_slice(&s[..count]);
         self.len = len + count;
@@ -66,8 +80,7 @@ impl Text {
 
     // With a number in decimal behind it.
     pub fn decimal(self, n: u64) -> Text
-        ensures result_value { text_of result ≡ cut (text_of self ++ decimal 20 n) }
-        ensures len_bound { (result.len ≤ 2048) × (result.len ≡ length (text_of result)) }
+        ensures { result ≡ cut (self ++ decimal 20 n) }
     {
         let mut digits = [0u8; 20];
         let k = io::decimal(n, &mut digits);
@@ -76,8 +89,7 @@ impl Text {
 
     // With the characters of bits behind it.
     pub fn bits(self, bits: &[u8]) -> Text
-        ensures result_value { text_of result ≡ cut (text_of self ++ map character_of bits.now) }
-        ensures len_bound { (result.len ≤ 2048) × (result.len ≡ length (text_of result)) }
+        ensures { result ≡ cut (self ++ map character_of bits.now) }
     {
         let mut characters = [0u8; 2048];
         let count = bits.len().min(2048);
@@ -90,8 +102,7 @@ impl Text {
     // With a burst type's name behind it.
     #[tactic(auto, unfolding(crate::specs::Text::type_name, crate::specs::Text::ascii))]
     pub fn type_name(self, burst_type: u32) -> Text
-        ensures result_value { text_of result ≡ cut (text_of self ++ type_name burst_type) }
-        ensures len_bound { (result.len ≤ 2048) × (result.len ≡ length (text_of result)) }
+        ensures { result ≡ cut (self ++ type_name burst_type) }
     {
         match burst_type {
             1 => self.append(b"normal1"),
@@ -102,9 +113,8 @@ impl Text {
         }
     }
 
-    #[tactic(auto, unfolding(crate::specs::Text::text_of))]
     pub fn as_bytes(&self) -> &[u8]
-        ensures { result.now ≡ text_of self.now }
+        ensures { result.now ≡ self.now }
     {
         front(&self.bytes, self.len)
     }

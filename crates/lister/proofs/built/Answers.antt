@@ -2,10 +2,10 @@
 use Rattle.std.proofs.Common.{◌≡◌, map, rules, arith, length, take, drop}
 use mir.Syntax.{w32}
 use mir.ValLaws.{to_z-of_z}
-use Rattle.text.specs.Text.{text_of, cut, ascii, character_of, type_name}
+use Rattle.text.specs.Text.{cut, ascii, character_of, type_name}
 use Rattle.text.proofs.Cutting.{then}
 use Rattle.lister.specs.Listing.{signed_decimal, burst_lines}
-use Rattle.lister.proofs.Short.{counts, part}
+use Rattle.lister.proofs.Short.{part}
 use Rattle.lister.proofs.built.Goals as goal
 
 pub returns : goal.returns
@@ -13,16 +13,14 @@ unfolding ascii burst_lines
 returns c =
     let B = c.args.burst in
     let h : length B ≡ 510 = search rules in
-    let t₁ : text_of c.append.result ≡ cut (ascii "kind=") = rw c.new.ensures.result_value at c.append.ensures.result_value in
-    let t₂ = then _ (type_name c.args.burst_type) t₁ c.type_name-named.ensures.result_value in
-    let t₃ = then _ (ascii "\nsum_first=") t₂ c.append-2.ensures.result_value in
+    let t₁ : c.append.result ≡ cut (ascii "kind=") = rw c.new.ensures at c.append.ensures in
+    let t₂ = then _ (type_name c.args.burst_type) t₁ c.type_name-named.ensures in
+    let t₃ = then _ (ascii "\nsum_first=") t₂ c.append-2.ensures in
     let t₄ = then _ (signed_decimal c.args.first) t₃ (rw (to_z-of_z w32 c.args.first c.ranges.first) at c.with_signed.ensures) in
-    let t₅ = then _ (ascii "\nadj_first=") t₄ c.append-3.ensures.result_value in
-    let t₆ = then _ (map character_of (take 2 (drop 12 B))) t₅ c.bits-one.ensures.result_value in
-    let t₇ = then _ (ascii "\nsum_last=") t₆ c.append-4.ensures.result_value in
+    let t₅ = then _ (ascii "\nadj_first=") t₄ c.append-3.ensures in
+    let t₆ = then _ (map character_of (take 2 (drop 12 B))) t₅ c.bits-one.ensures in
+    let t₇ = then _ (ascii "\nsum_last=") t₆ c.append-4.ensures in
     let t₈ = then _ (signed_decimal c.args.last) t₇ (rw (to_z-of_z w32 c.args.last c.ranges.last) at c.with_signed-2.ensures) in
-    let t₉ = then _ (ascii "\nadj_last=") t₈ c.append-5.ensures.result_value in
-    let t₁₀ = then _ (map character_of (take 2 (drop 498 B))) t₉ c.bits.ensures.result_value in (
-      counts c.append-6.result c.append-6.ensures.len_bound.1,
-      rw (part 12 2 B (omega (arith, h)), part 498 2 B (omega (arith, h))) (then _ (ascii "\n") t₁₀ c.append-6.ensures.result_value),
-    )
+    let t₉ = then _ (ascii "\nadj_last=") t₈ c.append-5.ensures in
+    let t₁₀ = then _ (map character_of (take 2 (drop 498 B))) t₉ c.bits.ensures in
+    rw (part 12 2 B (omega (arith, h)), part 498 2 B (omega (arith, h))) (then _ (ascii "\n") t₁₀ c.append-6.ensures)

@@ -6,13 +6,11 @@ use Rattle.lister.proofs.listing.Goals as goal
 
 pub returns-in_default : goal.returns-in_default
 returns-in_default c =
-    (c.refused.ensures.0, c.refused.ensures.1 ∙ ap cut (none c.args.input.now _ c.trimmed.ensures c.in_default.ensures.cases))
+    c.refused.ensures ∙ ap cut (none c.args.input.now _ c.trimmed.ensures c.in_default.ensures.cases)
 
 pub returns : goal.returns
 returns c =
     let x = c.in-Some in
-    let k = c.type_number.ensures ∙ c.of_letter-burst_type.ensures in (
-      c.print.ensures.0,
-      c.print.ensures.1
-          ∙ ap cut (rw (c.answer.ensures, k, c.of_letter-burst_type.ensures) (prints c.args.input.now x.letter.now x.characters.now (sym x.ensures.cases.0 ∙ c.trimmed.ensures))),
-    )
+    let k = c.type_number.ensures ∙ c.of_letter-burst_type.ensures in
+    c.print.ensures
+    ∙ ap cut (rw (c.answer.ensures, k, c.of_letter-burst_type.ensures) (prints c.args.input.now x.letter.now x.characters.now (sym x.ensures.cases.0 ∙ c.trimmed.ensures)))

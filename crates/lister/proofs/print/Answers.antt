@@ -9,8 +9,8 @@ use Rattle.lister.proofs.print.Goals as goal
 pub returns-in-Ok : goal.returns-in-Ok
 unfolding builder_reply listed_answer
 returns-in-Ok c =
-    (c.built.ensures.0, c.built.ensures.1 ∙ rw (c.in-Ok.is, to_z-of_z w32 c.in-Ok.burst.first_sum (search rules), to_z-of_z w32 c.in-Ok.burst.last_sum (search rules)))
+    c.built.ensures ∙ rw (c.in-Ok.is, to_z-of_z w32 c.in-Ok.burst.first_sum (search rules), to_z-of_z w32 c.in-Ok.burst.last_sum (search rules))
 
 pub returns-in-Err : goal.returns-in-Err
 unfolding builder_reply refusal listed_answer
-returns-in-Err c = (c.refused.ensures.0, c.refused.ensures.1 ∙ rw c.in-Err.is)
+returns-in-Err c = c.refused.ensures ∙ rw c.in-Err.is

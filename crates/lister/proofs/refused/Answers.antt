@@ -1,15 +1,14 @@
 -- A piece behind the other.
 use Rattle.std.proofs.Common.{◌≡◌}
 use Rattle.dsp_types.specs.Answers.{number_of}
-use Rattle.text.specs.Text.{text_of, cut, ascii, decimal}
+use Rattle.text.specs.Text.{cut, ascii, decimal}
 use Rattle.text.proofs.Cutting.{then}
 use Rattle.lister.specs.Listing.{refusal_line}
-use Rattle.lister.proofs.Short.{counts}
 use Rattle.lister.proofs.refused.Goals as goal
 
 pub returns : goal.returns
 unfolding ascii refusal_line
 returns c =
-    let start : text_of c.append.result ≡ cut (ascii "refused=") = rw c.new.ensures.result_value at c.append.ensures.result_value in
-    let number = then _ (decimal 20 (number_of c.args.refusal)) start (rw c.number.ensures at c.decimal.ensures.result_value) in
-    (counts c.append-2.result c.append-2.ensures.len_bound.1, then _ _ number c.append-2.ensures.result_value)
+    let start : c.append.result ≡ cut (ascii "refused=") = rw c.new.ensures at c.append.ensures in
+    let number = then _ (decimal 20 (number_of c.args.refusal)) start (rw c.number.ensures at c.decimal.ensures) in
+    then _ _ number c.append-2.ensures

@@ -6,4 +6,4 @@ use Rattle.lister.proofs.Short.{length_listing}
 use Rattle.lister.proofs.Input.listed.Goals as goal
 
 pub returns : goal.returns
-returns c = (c.listing.ensures.0, c.listing.ensures.1 ∙ rw c.as_slice.ensures.value (short (listing _) (length_listing _)))
+returns c = c.listing.ensures ∙ rw c.as_slice.ensures.value (short (listing _) (length_listing _))

@@ -22,6 +22,6 @@ returns-in-Err c =
     let a = c.args in
     let e = c.take_demodulated_slot.ensures in
     record {
-      line = λ re im abs. nothing_told a.style a.state.now re im abs _ _ (e.answer re im abs) c.in-Err.is c.new.ensures.result_value;
+      line = λ re im abs. nothing_told a.style a.state.now re im abs _ _ (e.answer re im abs) c.in-Err.is c.new.ensures;
       receiver = e.receiver;
     }

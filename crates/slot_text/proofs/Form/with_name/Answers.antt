@@ -1,6 +1,6 @@
 -- Piece by piece.
 use Rattle.std.proofs.Common.{ℕ, List, ◌++◌, ap, ◌∙◌}
-use Rattle.text.specs.Text.{text_of, cut, ascii}
+use Rattle.text.specs.Text.{cut, ascii}
 use Rattle.text.proofs.Cutting.{onto}
 use Rattle.slot_text.proofs.Pieces.{name_piece}
 use Rattle.slot_text.proofs.Form.with_name.Goals as goal
@@ -9,6 +9,6 @@ pub returns : goal.returns
 unfolding ascii
 returns c =
     let a = c.args in
-    let t = text_of a.text in
-    let p = onto t _ _ (onto t _ _ c.quote.ensures c.append.ensures.result_value) c.append-named.ensures.result_value in
+    let t = a.text in
+    let p = onto t _ _ (onto t _ _ c.quote.ensures c.append.ensures) c.append-named.ensures in
     onto t _ _ p c.by_form.ensures ∙ ap (λ (l : List ℕ). cut (t ++ l)) (name_piece a.self a.prefix.now a.name.now)

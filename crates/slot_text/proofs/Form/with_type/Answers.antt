@@ -1,6 +1,6 @@
 -- A lead, the name of the type and what closes it.
 use Rattle.std.proofs.Common.{ℕ, List, ◌++◌, ap, ◌∙◌}
-use Rattle.text.specs.Text.{text_of, cut, ascii, type_name}
+use Rattle.text.specs.Text.{cut, ascii, type_name}
 use Rattle.text.proofs.Cutting.{onto}
 use Rattle.slot_text.proofs.Pieces.{word_piece}
 use Rattle.slot_text.proofs.Form.with_type.Goals as goal
@@ -9,5 +9,5 @@ pub returns : goal.returns
 unfolding ascii
 returns c =
     let a = c.args in
-    let t = text_of a.text in
-    onto t _ _ (onto t _ _ c.up_to_word.ensures c.type_name.ensures.result_value) c.quote.ensures ∙ ap (λ (l : List ℕ). cut (t ++ l)) (word_piece a.self _ (type_name a.train_type))
+    let t = a.text in
+    onto t _ _ (onto t _ _ c.up_to_word.ensures c.type_name.ensures) c.quote.ensures ∙ ap (λ (l : List ℕ). cut (t ++ l)) (word_piece a.self _ (type_name a.train_type))

@@ -1,7 +1,7 @@
 -- Each turn makes a character more, and those that are cut off need not be there.
 use Rattle.std.proofs.Common.{◌≡◌, List, ℕ, ◌++◌, map, ap, ◌∙◌, arith, rules}
 use lib.ListN.{length-map}
-use Rattle.text.specs.Text.{text_of, cut, character_of}
+use Rattle.text.specs.Text.{cut, character_of}
 use Rattle.text.proofs.Pieces.{character_turn, cut_least}
 use Rattle.text.proofs.Text.bits.Goals as goal
 
@@ -10,10 +10,10 @@ loop-i-preserved c =
     let l = c.loop-i in
     (search rules, character_turn c.args.bits.now l.characters l.i c.character_of.result (omega arith) (omega arith) c.character_of.ensures l.invariant.1)
 
-pub returns-clause-result_value : goal.returns-clause-result_value
-returns-clause-result_value c =
+pub returns : goal.returns
+returns c =
     let l = c.loop-i in
     let count = c.min-count in
     let e : l.i ≡ count.result = omega arith in
     let m = rw e at l.invariant.1 in
-    c.append.ensures.result_value ∙ ap (λ (s : List ℕ). cut (text_of c.args.self ++ s)) m ∙ cut_least (text_of c.args.self) (map character_of c.args.bits.now) count.result (rw (length-map c.args.bits.now character_of) count.ensures)
+    c.append.ensures ∙ ap (λ (s : List ℕ). cut (c.args.self ++ s)) m ∙ cut_least (c.args.self) (map character_of c.args.bits.now) count.result (rw (length-map c.args.bits.now character_of) count.ensures)
