@@ -28,7 +28,8 @@ pub(crate) fn sevens(n: usize) -> [u8; 1024]
 fn refused_row(refusal: Refusal) -> [u64; ROW]
     ensures { result ≡ row_of (refused (number_of refusal)) }
 {
-    [0, u64::from(refusal.number()), 0, 0, 0, 0, 0, 0, 0, 0, 0, 0, 0, 0, 0, 0]
+    let number = u64::from(refusal.number());
+    [0, number, 0, 0, 0, 0, 0, 0, 0, 0, 0, 0, 0, 0, 0, 0]
 }
 
 #[tactic(auto, unfolding(crate::specs::Runs::row_of, slot_receiver::specs::Calls::in_numbers, slot_receiver::specs::Calls::reply_of))]
