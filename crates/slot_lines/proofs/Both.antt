@@ -19,7 +19,7 @@ use Rattle.receiver.specs.Feed.{interleaved, feed_of}
 use Rattle.slot_text.specs.declared.Form.{Form}
 use Rattle.slot_text.specs.declared.Style.{Style}
 use Rattle.slot_lines.specs.Blocks.{line_of, hear_one, Step, stretch_of, stretch_by, mended_by, step_of}
-use Rattle.slot_lines.specs.Links.{down_style, up_style, follow_if, begins_if, still_begins, shown_of, UpPrinted, up_printed, both_printed, Both, rest_printed, BothStep, lead_step, catch_up_step, step_by, both_step, both_of, both_made}
+use Rattle.slot_lines.specs.Links.{down_style, up_style, follow_if, begins_if, still_begins, shown_of, is_shown, UpPrinted, up_printed, both_printed, Both, rest_printed, BothStep, lead_step, catch_up_step, step_by, both_step, both_of, both_made}
 use Rattle.slot_lines.specs.declared.links.Links.{Links}
 use Rattle.slot_lines.specs.declared.links.LinksHeard.{LinksHeard}
 use Rattle.slot_lines.proofs.Steps.{counts, counts_none, First, on, ends, first, step_goes, samples_count}
@@ -183,17 +183,17 @@ none_lem false x e = rw e
 -- what is made of a step of one link
 pub led_made : (form : Form) (has_bits : Bool) (b : Both) (xs : List ComplexSample) (c : ℤ) {s : Step} {u : Receiver} {g : Bool} → s ≡ step_of (down_style form has_bits) b.down xs c
     → u ≡ follow_if b.slot b.up b.down → g ≡ begins_if b.slot b.up c b.begins
-    → record { taken = 0; refusal = s.refusal; line = b.line; both = record { down = s.heard.receiver; up = u; begins = g; behind = s.taken; slot = s.heard.slot; line = s.heard.lines } }
+    → record { taken = 0; refusal = s.refusal; line = b.line; is_shown = b.slot; both = record { down = s.heard.receiver; up = u; begins = g; behind = s.taken; slot = s.heard.slot; line = s.heard.lines } }
     ≡ lead_step form has_bits b xs c
 unfolding lead_step
 led_made form has_bits b xs c e f g = rw (e, f, g)
 
-pub caught_made : (form : Form) (has_bits : Bool) (b : Both) (ys : List ComplexSample) (c : ℤ) {s : Step} {l : List ℕ} {g : Bool} {zs : List ComplexSample} → zs ≡ take b.behind ys
-    → s ≡ step_of (up_style form has_bits) b.up zs c → l ≡ shown_of b.begins s.heard.lines → g ≡ still_begins b.begins s.heard.slot
-    → record { taken = s.taken; refusal = s.refusal; line = l; both = record { down = b.down; up = s.heard.receiver; begins = g; behind = b.behind - s.taken; slot = b.slot; line = b.line } }
+pub caught_made : (form : Form) (has_bits : Bool) (b : Both) (ys : List ComplexSample) (c : ℤ) {s : Step} {l : List ℕ} {p g : Bool} {zs : List ComplexSample} → zs ≡ take b.behind ys
+    → s ≡ step_of (up_style form has_bits) b.up zs c → l ≡ shown_of b.begins s.heard.lines → p ≡ is_shown b.begins s.heard.slot → g ≡ still_begins b.begins s.heard.slot
+    → record { taken = s.taken; refusal = s.refusal; line = l; is_shown = p; both = record { down = b.down; up = s.heard.receiver; begins = g; behind = b.behind - s.taken; slot = b.slot; line = b.line } }
     ≡ catch_up_step form has_bits b ys c
 unfolding catch_up_step
-caught_made form has_bits b ys c f e l g = rw (l, g, e, f)
+caught_made form has_bits b ys c f e l p g = rw (l, p, g, e, f)
 
 -- no more of the first n samples are done with than there are
 pub few_taken : (n : ℕ) (parts few : List Float) {t : ℕ} → interleaved few ≡ take n (interleaved parts) → t ≤ length few / 2 → t ≤ n

@@ -53,6 +53,10 @@ unfoldable pub shown_of : Bool → List ℕ → List ℕ
 shown_of true lines = []
 shown_of false lines = lines
 
+-- and whether that is a slot's line
+unfoldable pub is_shown : Bool → Bool → Bool
+is_shown begins slot = not begins && slot
+
 -- ---- sample by sample
 
 -- samples of both with the counters c, c + 1, ..: at each counter the uplink's line comes first
@@ -98,11 +102,13 @@ rest_printed form has_bits b xs ys c =
     ++ (b.line
     ++ both_printed form has_bits b.down (follow_if b.slot u.receiver b.down) (begins_if b.slot u.receiver (c +ℤ pos b.behind) u.begins) (drop b.behind xs) (drop b.behind ys) (c +ℤ pos b.behind))
 
--- how many samples both are done with, the refusal of the last that was heard, what is printed, and both after it
+-- how many samples both are done with, the refusal of the last that was heard, what is printed and whether that is a slot's line,
+-- and both after it
 pub record BothStep : Type 0 where
   pub taken : ℕ
   pub refusal : ℕ
   pub line : List ℕ
+  pub is_shown : Bool
   pub both : Both
 
 -- the uplink is not behind: it follows where it is told to, and the downlink leads
@@ -113,6 +119,7 @@ lead_step form has_bits b xs c =
       taken = 0;
       refusal = s.refusal;
       line = b.line;
+      is_shown = b.slot;
       both =
           record {
             down = s.heard.receiver;
@@ -132,6 +139,7 @@ catch_up_step form has_bits b ys c =
       taken = s.taken;
       refusal = s.refusal;
       line = shown_of b.begins s.heard.lines;
+      is_shown = is_shown b.begins s.heard.slot;
       both = record { down = b.down; up = s.heard.receiver; begins = still_begins b.begins s.heard.slot; behind = b.behind - s.taken; slot = b.slot; line = b.line };
     }
 
@@ -148,4 +156,4 @@ unfoldable pub both_of : Links → (re im abs up_re up_im up_abs : List Float) �
 both_of l re im abs up_re up_im up_abs = record { down = receiver_of l.down re im abs; up = receiver_of l.up up_re up_im up_abs; begins = l.begins; behind = l.behind; slot = is_some l.line; line = line_of l.line }
 
 unfoldable pub both_made : LinksHeard → Links → (re im abs up_re up_im up_abs : List Float) → BothStep
-both_made h l re im abs up_re up_im up_abs = record { taken = h.taken; refusal = refused_with h.refusal; line = line_of h.line; both = both_of l re im abs up_re up_im up_abs }
+both_made h l re im abs up_re up_im up_abs = record { taken = h.taken; refusal = refused_with h.refusal; line = line_of h.line; is_shown = is_some h.line; both = both_of l re im abs up_re up_im up_abs }

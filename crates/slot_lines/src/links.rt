@@ -3,7 +3,7 @@ ghost use Rattle.std.specs.Prelude.{◌≡◌, List, ◌++◌, Float, pos, ◌+�
 ghost use Rattle.receiver.specs.Feed.{interleaved};
 ghost use Rattle.receiver.specs.View.{receiver_of};
 ghost use Rattle.slot_lines.specs.Blocks.{line_of};
-ghost use Rattle.slot_lines.specs.Links.{is_uplink, is_past, follow_if, begins_if, shown_of, rest_printed, lead_step, catch_up_step, both_step, both_of, both_made};
+ghost use Rattle.slot_lines.specs.Links.{is_uplink, is_past, follow_if, begins_if, shown_of, is_shown, rest_printed, lead_step, catch_up_step, both_step, both_of, both_made};
 
 use crate::listen::hear;
 use dsp_types::{Refusal, SampleCount};
@@ -51,9 +51,10 @@ fn keeps_timing(up: &State, counter: SampleCount) -> bool
 }
 
 // What is shown of a line.
-#[tactic(auto, unfolding(crate::specs::Links::shown_of))]
+#[tactic(auto, unfolding(crate::specs::Links::shown_of, crate::specs::Links::is_shown))]
 fn shown(begins: bool, line: Option<Text>) -> Option<Text>
-    ensures { line_of result ≡ shown_of begins (line_of line) }
+    ensures line { line_of result ≡ shown_of begins (line_of line) }
+    ensures is_shown { is_some result ≡ is_shown begins (is_some line) }
 {
     if begins { None } else { line }
 }

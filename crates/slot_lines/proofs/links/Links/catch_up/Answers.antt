@@ -12,5 +12,5 @@ pub returns : goal.returns
 unfolding step_made up_style still_begins both_of both_made
 returns c =
     λ down_re down_im down_abs.
-    caught_made c.args.style.form c.args.style.has_bits _ _ _ c.first_samples-behind.ensures c.hear-heard.ensures.step c.shown-line.ensures
+    caught_made c.args.style.form c.args.style.has_bits _ _ _ c.first_samples-behind.ensures c.hear-heard.ensures.step c.shown-line.ensures.line c.shown-line.ensures.is_shown
     (ap (λ (b : Bool). c.args.self.now.begins && b) (none_lem _ _ c.is_none.ensures))
