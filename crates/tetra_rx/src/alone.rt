@@ -20,14 +20,13 @@ impl Downlink {
     // Tells what a step from that counter on came to: the receiver's mode, a refused sample, a slot's line.
     fn tell<H: Host>(&mut self, rt: &H, heard: Heard, first: u64) {
         let last = first.wrapping_add(heard.taken as u64).wrapping_sub(1);
-        let mut tally = self.tally.with_mode(rt, self.receiver.slots.mode, last);
+        self.tally.set_mode(rt, self.receiver.slots.mode, last);
         if heard.refusal.is_some() {
-            tally = tally.refuse(rt, false, last);
+            self.tally.refuse(rt, false, last);
         }
         if let Some(line) = heard.line {
-            tally = tally.print(rt, false, line);
+            self.tally.print(rt, false, line);
         }
-        self.tally = tally;
     }
 
     // Hears a block of samples, re and im in turn.
@@ -55,7 +54,7 @@ impl Downlink {
             at = at.wrapping_add(heard.taken);
             self.tell(rt, heard, first);
         }
-        self.tally = self.tally.moved(rt, at, parts);
+        self.tally.move_on(rt, at, parts);
     }
 }
 

@@ -37,17 +37,15 @@ impl Both {
             self.links.behind
         };
         let last = first.wrapping_add(ahead as u64).wrapping_sub(1);
-        let mut tally = self.tally;
         if let Some(line) = heard.line {
-            tally = tally.print(rt, is_up, line);
+            self.tally.print(rt, is_up, line);
         }
         if heard.refusal.is_some() {
-            tally = tally.refuse(rt, is_up, last);
+            self.tally.refuse(rt, is_up, last);
         }
         if !is_up {
-            tally = tally.with_mode(rt, self.links.down.slots.mode, last);
+            self.tally.set_mode(rt, self.links.down.slots.mode, last);
         }
-        self.tally = tally;
     }
 
     // Hears a block of samples of each link, re and im in turn.
@@ -98,7 +96,7 @@ impl Both {
             at = at.wrapping_add(heard.taken);
             self.tell(rt, is_up, heard, first);
         }
-        self.tally = self.tally.moved(rt, at, parts);
+        self.tally.move_on(rt, at, parts);
     }
 }
 

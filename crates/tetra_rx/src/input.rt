@@ -91,12 +91,8 @@ impl<R: Read> Input<R> {
     pub(crate) fn without(&mut self, block: &mut Block, n: usize) {
         let bytes = n.min(MOST) * self.sample_bytes();
         if bytes < self.held {
-            let left = self.held - bytes;
-            // The library has no copy within one slice.
-            for i in 0..left {
-                block[i] = block[bytes + i];
-            }
-            self.held = left;
+            block.copy_within(bytes..self.held, 0);
+            self.held -= bytes;
         } else {
             self.held = self.rest();
         }

@@ -86,17 +86,16 @@ impl Tally {
         }
     }
 
-    // With the mode that the downlink is in behind the sample with that counter, the last of a step: where the mode has
-    // changed, a window closed at this sample.
-    pub(crate) fn with_mode<H: Host>(self, rt: &H, number: u8, counter: u64) -> Tally {
+    // The mode that the downlink is in behind the sample with that counter, the last of a step: where the mode has changed, a
+    // window closed at this sample.
+    pub(crate) fn set_mode<H: Host>(&mut self, rt: &H, number: u8, counter: u64) {
         let mode = Mode::from(number);
         if mode == self.mode {
-            return self;
+            return;
         }
-        let mut next = self;
-        next.mode = mode;
-        next.since = counter;
-        next.is_advised = false;
+        self.mode = mode;
+        self.since = counter;
+        self.is_advised = false;
         if !self.is_quiet {
             let begun = report::with_mode(report::begun(false, self.is_progress), mode);
             report::tell(
@@ -105,7 +104,6 @@ impl Tally {
                 b"\n",
             );
         }
-        next
     }
 
     // A link that there is.
@@ -117,8 +115,8 @@ impl Tally {
         }
     }
 
-    // With a slot whose line is printed.
-    pub(crate) fn print<H: Host>(mut self, rt: &H, is_up: bool, line: Text) -> Tally {
+    // A slot more, whose line is printed.
+    pub(crate) fn print<H: Host>(&mut self, rt: &H, is_up: bool, line: Text) {
         if self.is_shared {
             report::clear(rt);
         }
@@ -129,17 +127,15 @@ impl Tally {
         if let Some(link) = self.link(is_up) {
             link.count_slot();
         }
-        self
     }
 
-    // With a refused sample.
-    pub(crate) fn refuse<H: Host>(mut self, rt: &H, is_up: bool, counter: u64) -> Tally {
+    // A refused sample.
+    pub(crate) fn refuse<H: Host>(&mut self, rt: &H, is_up: bool, counter: u64) {
         let is_progress = self.is_progress;
         if let Some(link) = self.link(is_up) {
             link.tell_by(rt, counter, is_progress);
             link.refuse(counter);
         }
-        self
     }
 
     // After a minute of search without a lock.
@@ -169,8 +165,8 @@ impl Tally {
         self.next = self.counter.wrapping_add(SECOND);
     }
 
-    // With so many samples more, of which the downlink's are given.
-    pub(crate) fn moved<H: Host>(mut self, rt: &H, n: usize, parts: &[f32]) -> Tally {
+    // So many samples more, of which the downlink's are given.
+    pub(crate) fn move_on<H: Host>(&mut self, rt: &H, n: usize, parts: &[f32]) {
         self.counter = self.counter.wrapping_add(n as u64);
         self.down.tell_by(rt, self.counter, self.is_progress);
         if let Some(up) = &mut self.up {
@@ -179,7 +175,6 @@ impl Tally {
         self.advise(rt);
         self.progress(rt, parts);
         self.close_at_end(rt);
-        self
     }
 
     // There are no more counters.
