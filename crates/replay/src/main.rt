@@ -14,6 +14,7 @@ mod session;
 mod stateless;
 mod uplink;
 
+use answer::error;
 use input::{Input, next_line};
 use output::Output;
 use receivers::{Receivers, serve};
@@ -41,7 +42,7 @@ fn run<H: Host, R: Read>(rt: &H, from: &mut R) {
         }
         let answer = match serve(&mut receivers, &line, next.len) {
             Some(answer) => answer,
-            None => session.step(&line, next.len),
+            None => session.step(&line, next.len).unwrap_or(error()),
         };
         out = out.add(rt, &mut answers, answer);
     }
