@@ -1,6 +1,8 @@
 // The fields of a line, which are parted by one space, and the numbers, samples and bits that they hold.
-use crate::input::{Block, put_byte};
 use dsp_types::{ComplexSample, SampleCount};
+
+// The values of a line's digits, each at its digit's place.
+pub(crate) type Block = [u8; 65536];
 
 pub(crate) fn count(line: &[u8]) -> usize {
     line.split(|byte| *byte == b' ').count()
@@ -135,6 +137,20 @@ fn values_of<'a>(line: &[u8], values: &'a Block, k: usize, len: usize) -> &'a [u
 // The values of the digits in field k.
 pub(crate) fn bits<'a>(line: &[u8], values: &'a Block, k: usize) -> Option<&'a [u8]> {
     Some(values_of(line, values, k, digits(line, k)?.len()))
+}
+
+// Puts a byte at a place of a block, where it has that.
+fn put_byte(block: &mut Block, at: usize, byte: u8) {
+    if let Some(place) = block.get_mut(at) {
+        *place = byte;
+    }
+}
+
+// Puts the values of a line's digits into a block.
+pub(crate) fn put(block: &mut Block, line: &[u8]) {
+    for (i, byte) in line.iter().enumerate() {
+        put_byte(block, i, byte.wrapping_sub(b'0'));
+    }
 }
 
 // Puts the byte of each pair of hexadecimal digits into a block, from a place on.

@@ -4,7 +4,6 @@ ghost use Rattle.std.specs.Prelude.{IfSome, ◌<◌};
 use crate::answer::{error, ok, refused, with_number};
 use crate::field;
 use crate::field::{count, counter, field, letter, number};
-use crate::input::Block;
 use demodulator::Demodulator;
 use dsp_types::{Refusal, unsigned};
 use program::is_word;
@@ -129,9 +128,8 @@ fn take(receiver: &mut Demodulator, line: &[u8], has_counter: bool) -> Option<Te
     Some(taken(answer, has_counter, &slot, &half1, &half2))
 }
 
-// Makes the call of the block's line of that length, if it is one on receivers that are made, or makes one.
-pub(crate) fn serve(receivers: &mut Receivers, block: &Block, len: usize) -> Option<Text> {
-    let line = text::front(block, len);
+// Makes the call of a line, if it is one on receivers that are made, or makes one.
+pub(crate) fn serve(receivers: &mut Receivers, line: &[u8]) -> Option<Text> {
     let fields = count(line);
     let r = low(line, 1)?;
     if fields == 3 && is_word(field(line, 0), b"new") {

@@ -1,7 +1,6 @@
 // What a list of calls works on besides receivers: a lone filter line, and a sender with its phase record.
 use crate::answer::{ok, refused, sample};
-use crate::field::{bits, count, counter, letter, number};
-use crate::input::{Block, put};
+use crate::field::{Block, bits, count, counter, letter, number, put};
 use crate::{field, stateless};
 use dsp_types::{ComplexSample, TdmaTime};
 use fir::FirComplexSym;
@@ -73,9 +72,8 @@ impl Session {
         Some(ok())
     }
 
-    // Makes the call of the block's line of that length, if it is one.
-    pub(crate) fn step(&mut self, block: &Block, len: usize) -> Option<Text> {
-        let line = text::front(block, len);
+    // Makes the call of a line, if it is one.
+    pub(crate) fn step(&mut self, line: &[u8]) -> Option<Text> {
         let count = count(line);
         if count == 1 {
             return self.renew(line);
@@ -85,7 +83,7 @@ impl Session {
             return Some(sample(self.filter.sample(field::sample(line, 1)?)));
         }
         let mut values = [0u8; 65536];
-        put(&mut values, 0, line, b'0');
+        put(&mut values, line);
         if count == 4
             && name == b'w'
             && let Some(sender) = &mut self.sender

@@ -1,7 +1,6 @@
 // The calls that work on nothing that is kept: burst builders, the logger's call, magnitude and quarter turns.
 use crate::answer::{burst, float, refused, with_number};
-use crate::field::{bits, count, digits, letter, number, sample};
-use crate::input::Block;
+use crate::field::{Block, bits, count, digits, letter, number, sample};
 use crate::uplink;
 use block_text::BurstType;
 use dsp_types::Refusal;

@@ -1,7 +1,6 @@
 // The calls that build uplink bursts. Their blocks may be digits or pairs of hexadecimal digits.
 use crate::answer::burst;
-use crate::field::{bytes, number, put_bytes};
-use crate::input::Block;
+use crate::field::{Block, bytes, number, put_bytes};
 use slotter::{build_cub, build_nub};
 use text::Text;
 
