@@ -1,8 +1,8 @@
 // The fields of a line, which are parted by one space, and the numbers, samples and bits that they hold.
-use crate::input::{Block, put_byte};
 use dsp_types::{ComplexSample, SampleCount};
 
-pub(crate) const LARGEST_U32: u64 = 0xffff_ffff;
+// The values of a line's digits, each at its digit's place.
+pub(crate) type Block = [u8; 65536];
 
 pub(crate) fn count(line: &[u8]) -> usize {
     line.split(|byte| *byte == b' ').count()
@@ -35,11 +35,11 @@ pub(crate) fn field(line: &[u8], k: usize) -> &[u8] {
     }
 }
 
-// The byte of a field that has no other, else 0, which is no call's letter: an Option makes no comparison with a letter plainer.
-pub(crate) fn letter(line: &[u8], k: usize) -> u8 {
+// The byte of a field that has no other.
+pub(crate) fn letter(line: &[u8], k: usize) -> Option<u8> {
     match field(line, k) {
-        [byte] => *byte,
-        _ => 0,
+        [byte] => Some(*byte),
+        _ => None,
     }
 }
 
@@ -75,15 +75,9 @@ fn decimal(text: &[u8]) -> Option<u64> {
     }
 }
 
-// The decimal number in field k. What is none counts as u64::MAX, which is above all that a call takes: so the calls' bounds
-// refuse both at once.
-pub(crate) fn number(line: &[u8], k: usize) -> u64 {
-    decimal(field(line, k)).unwrap_or(u64::MAX)
-}
-
-// A number that is known to fit, else the largest that does.
-pub(crate) fn narrow(value: u64) -> u32 {
-    u32::try_from(value).unwrap_or(u32::MAX)
+// The decimal u32 in field k: no call takes a larger number.
+pub(crate) fn number(line: &[u8], k: usize) -> Option<u32> {
+    u32::try_from(decimal(field(line, k))?).ok()
 }
 
 // The decimal i64 that a text is.
@@ -94,14 +88,9 @@ fn signed(text: &[u8]) -> Option<i64> {
     }
 }
 
-// Whether field k is a decimal i64.
-pub(crate) fn is_counter(line: &[u8], k: usize) -> bool {
-    signed(field(line, k)).is_some()
-}
-
-// The decimal i64 in field k, which is known to be one.
-pub(crate) fn counter(line: &[u8], k: usize) -> SampleCount {
-    SampleCount(signed(field(line, k)).unwrap_or(0))
+// The decimal i64 in field k.
+pub(crate) fn counter(line: &[u8], k: usize) -> Option<SampleCount> {
+    Some(SampleCount(signed(field(line, k))?))
 }
 
 // An f32's bit pattern, 8 hexadecimal digits.
@@ -113,54 +102,54 @@ fn pattern(text: &[u8]) -> Option<u32> {
 }
 
 // The sample whose parts are fields k and k + 1.
-fn sample_of(line: &[u8], k: usize) -> Option<ComplexSample> {
+pub(crate) fn sample(line: &[u8], k: usize) -> Option<ComplexSample> {
     Some(ComplexSample {
         re: iq_format::float(pattern(field(line, k))?),
         im: iq_format::float(pattern(field(line, k.wrapping_add(1)))?),
     })
 }
 
-pub(crate) fn is_sample(line: &[u8], k: usize) -> bool {
-    sample_of(line, k).is_some()
-}
-
-// The sample in fields k and k + 1, which are known to be its parts.
-pub(crate) fn sample(line: &[u8], k: usize) -> ComplexSample {
-    match sample_of(line, k) {
-        Some(sample) => sample,
-        None => ComplexSample { re: 0.0, im: 0.0 },
-    }
-}
-
 // The digits in field k, behind its `=`.
-pub(crate) fn digits(line: &[u8], k: usize) -> &[u8] {
-    behind(field(line, k), 1)
-}
-
-// Whether field k is `=` and digits.
-pub(crate) fn has_digits(line: &[u8], k: usize) -> bool {
-    match field(line, k).strip_prefix(b"=") {
-        Some(text) => text.iter().all(|byte| byte.is_ascii_digit()),
-        None => false,
+pub(crate) fn digits(line: &[u8], k: usize) -> Option<&[u8]> {
+    let text = field(line, k).strip_prefix(b"=")?;
+    if text.iter().all(|byte| byte.is_ascii_digit()) {
+        Some(text)
+    } else {
+        None
     }
 }
 
-// The digits' values, where the block has those of the whole line.
-pub(crate) fn bits<'a>(line: &[u8], values: &'a Block, k: usize) -> &'a [u8] {
-    let from = start_of(line, k).wrapping_add(1);
-    text::front(behind(values, from), digits(line, k).len())
-}
-
-// The hexadecimal digits in field k, behind its `#`.
+// The pairs of hexadecimal digits in field k, behind its `#`.
 fn hex(line: &[u8], k: usize) -> Option<&[u8]> {
-    field(line, k).strip_prefix(b"#")
+    let text = field(line, k).strip_prefix(b"#")?;
+    if text.len() % 2 == 0 && text.iter().all(|byte| byte.is_ascii_hexdigit()) {
+        Some(text)
+    } else {
+        None
+    }
 }
 
-// Whether field k is `=` and digits, or `#` and pairs of hexadecimal digits.
-pub(crate) fn has_bytes(line: &[u8], k: usize) -> bool {
-    match hex(line, k) {
-        Some(text) => text.len() % 2 == 0 && text.iter().all(|byte| byte.is_ascii_hexdigit()),
-        None => has_digits(line, k),
+// So many of the values behind the mark of field k, where the block has those of the whole line.
+fn values_of<'a>(line: &[u8], values: &'a Block, k: usize, len: usize) -> &'a [u8] {
+    text::front(behind(values, start_of(line, k).wrapping_add(1)), len)
+}
+
+// The values of the digits in field k.
+pub(crate) fn bits<'a>(line: &[u8], values: &'a Block, k: usize) -> Option<&'a [u8]> {
+    Some(values_of(line, values, k, digits(line, k)?.len()))
+}
+
+// Puts a byte at a place of a block, where it has that.
+fn put_byte(block: &mut Block, at: usize, byte: u8) {
+    if let Some(place) = block.get_mut(at) {
+        *place = byte;
+    }
+}
+
+// Puts the values of a line's digits into a block.
+pub(crate) fn put(block: &mut Block, line: &[u8]) {
+    for (i, byte) in line.iter().enumerate() {
+        put_byte(block, i, byte.wrapping_sub(b'0'));
     }
 }
 
@@ -180,12 +169,10 @@ pub(crate) fn put_bytes(line: &[u8], values: &mut Block, k: usize) {
     }
 }
 
-// The bytes of field k, where the block has those of the whole line.
-pub(crate) fn bytes<'a>(line: &[u8], values: &'a Block, k: usize) -> &'a [u8] {
-    let all = bits(line, values, k);
-    if hex(line, k).is_some() {
-        text::front(all, all.len() / 2)
-    } else {
-        all
+// The bytes of field k, whose digits or pairs of hexadecimal digits the block has the values of.
+pub(crate) fn bytes<'a>(line: &[u8], values: &'a Block, k: usize) -> Option<&'a [u8]> {
+    match hex(line, k) {
+        Some(text) => Some(values_of(line, values, k, text.len() / 2)),
+        None => bits(line, values, k),
     }
 }

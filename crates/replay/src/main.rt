@@ -14,38 +14,78 @@ mod session;
 mod stateless;
 mod uplink;
 
-use input::{Input, next_line};
+use answer::error;
+use input::Line;
 use output::Output;
 use receivers::{Receivers, serve};
 use session::Session;
 use std::io::Read;
 use streams::Host;
 
+// What the calls work on, and their answers.
+#[derive(Drop)]
+struct Replayer {
+    receivers: Receivers,
+    session: Session,
+    out: Output,
+}
+
+impl Replayer {
+    // Makes the call of a line.
+    fn call<H: Host>(&mut self, rt: &H, line: &[u8]) {
+        let answer = match serve(&mut self.receivers, line) {
+            Some(answer) => answer,
+            None => self.session.step(line).unwrap_or(error()),
+        };
+        self.out.add(rt, answer);
+    }
+
+    // Makes the calls of the lines that end in these bytes.
+    fn calls<H: Host>(&mut self, rt: &H, line: &mut Line, bytes: &[u8]) {
+        for byte in bytes {
+            if *byte == b'\n' {
+                self.call(rt, line.text());
+                line.clear();
+            } else {
+                line.push(*byte);
+            }
+        }
+    }
+}
+
 fn run<H: Host, R: Read>(rt: &H, from: &mut R) {
     let mut block = [0u8; 65536];
-    let mut line = [0u8; 65536];
-    let mut answers = [0u8; 65536];
-    let mut input = Input::new();
-    let mut out = Output::new();
-    let mut session = Session::new();
-    let mut receivers: Receivers = [None; 4];
+    let mut line = Line::new();
+    let mut replayer = Replayer {
+        receivers: [None; 4],
+        session: Session::new(),
+        out: Output::new(),
+    };
     // A proved loop has to end, and nothing says that the input does: it counts to a number that no run reaches.
     for _ in 0..u64::MAX {
-        if out.is_broken {
+        if replayer.out.is_broken {
             break;
         }
-        let next = next_line(rt, from, &mut block, input, &mut line);
-        input = next.input;
-        if next.is_end {
+        let Some(n) = streams::read_or_tell(
+            rt,
+            from,
+            &mut block,
+            b"replay: the input cannot be read",
+        ) else {
+            // What was read of a line before that is no line.
+            line.clear();
             break;
-        }
-        let answer = match serve(&mut receivers, &line, next.len) {
-            Some(answer) => answer,
-            None => session.step(&line, next.len),
         };
-        out = out.add(rt, &mut answers, answer);
+        if n == 0 {
+            break;
+        }
+        replayer.calls(rt, &mut line, &block[..n]);
     }
-    out.flush(rt, &answers);
+    // No newline ends the last line.
+    if !line.is_empty() {
+        replayer.call(rt, line.text());
+    }
+    replayer.out.flush(rt);
 }
 
 fn main(rt: HostRuntime) {

@@ -3,16 +3,13 @@ ghost use Rattle.std.specs.Prelude.{IfSome, ◌<◌};
 
 use crate::answer::{error, ok, refused, with_number};
 use crate::field;
-use crate::field::{count, counter, field, is_counter, is_sample, letter, number};
-use crate::input::Block;
+use crate::field::{count, counter, field, letter, number};
 use demodulator::Demodulator;
 use dsp_types::{Refusal, unsigned};
 use program::is_word;
 use rx_slot::{RxBurst, RxSlot};
 use slot_receiver::Mode;
 use text::Text;
-
-const LONGEST_SLICE: u64 = 4096;
 
 // Those that calls have made.
 pub(crate) type Receivers = [Option<Demodulator>; 4];
@@ -24,30 +21,13 @@ type Lent = [u8; 4096];
 fn low(line: &[u8], k: usize) -> Option<usize>
     ensures { IfSome result (λ n. n < 4) }
 {
-    let n = number(line, k);
+    let n = number(line, k)?;
     if n < 4 { Some(n as usize) } else { None }
 }
 
-// Whether a take is told with its slot's closing counter.
-fn has_counter(line: &[u8]) -> bool {
-    letter(line, 0) == b'T'
-}
-
-fn is_take(line: &[u8]) -> bool {
-    (letter(line, 0) == b't' || has_counter(line))
-        && number(line, 2) <= LONGEST_SLICE
-        && number(line, 3) <= LONGEST_SLICE
-        && number(line, 4) <= LONGEST_SLICE
-}
-
-fn is_sampling(line: &[u8]) -> bool {
-    letter(line, 0) == b's' && is_counter(line, 2) && is_sample(line, 3)
-}
-
-// The first bytes, as many as field k says.
-fn front<'a>(s: &'a mut [u8], line: &[u8], k: usize) -> &'a mut [u8] {
-    let len = (number(line, k) as usize).min(s.len());
-    &mut s[0..len]
+// The first of the lent bytes, as many as field k says, where there are so many.
+fn front<'a>(lent: &'a mut Lent, line: &[u8], k: usize) -> Option<&'a mut [u8]> {
+    lent.get_mut(..number(line, k)? as usize)
 }
 
 fn is_all(bytes: &[u8], byte: u8) -> bool {
@@ -131,26 +111,25 @@ fn mode_of(number: usize) -> Mode {
     }
 }
 
-fn sample(receiver: &mut Demodulator, line: &[u8]) -> Text {
-    let answer = receiver.sample(field::sample(line, 3), counter(line, 2));
-    told(answer, Text::new())
+fn sample(receiver: &mut Demodulator, line: &[u8]) -> Option<Text> {
+    let answer = receiver.sample(field::sample(line, 3)?, counter(line, 2)?);
+    Some(told(answer, Text::new()))
 }
 
-fn take(receiver: &mut Demodulator, line: &[u8]) -> Text {
+fn take(receiver: &mut Demodulator, line: &[u8], has_counter: bool) -> Option<Text> {
     let mut slot = [7u8; 4096];
     let mut half1 = [7u8; 4096];
     let mut half2 = [7u8; 4096];
     let answer = receiver.take_demodulated_slot(
-        front(&mut slot, line, 2),
-        front(&mut half1, line, 3),
-        front(&mut half2, line, 4),
+        front(&mut slot, line, 2)?,
+        front(&mut half1, line, 3)?,
+        front(&mut half2, line, 4)?,
     );
-    taken(answer, has_counter(line), &slot, &half1, &half2)
+    Some(taken(answer, has_counter, &slot, &half1, &half2))
 }
 
-// Makes the call of the block's line of that length, if it is one on receivers that are made, or makes one.
-pub(crate) fn serve(receivers: &mut Receivers, block: &Block, len: usize) -> Option<Text> {
-    let line = text::front(block, len);
+// Makes the call of a line, if it is one on receivers that are made, or makes one.
+pub(crate) fn serve(receivers: &mut Receivers, line: &[u8]) -> Option<Text> {
     let fields = count(line);
     let r = low(line, 1)?;
     if fields == 3 && is_word(field(line, 0), b"new") {
@@ -160,15 +139,16 @@ pub(crate) fn serve(receivers: &mut Receivers, block: &Block, len: usize) -> Opt
     }
     let called = receivers[r];
     let mut receiver = called?;
-    let answer = if fields == 3 && letter(line, 0) == b'f' {
-        let leader = receivers[low(line, 2)?];
-        told(receiver.sync_to_demodulator(&leader?), ok())
-    } else if fields == 5 && is_sampling(line) {
-        sample(&mut receiver, line)
-    } else if fields == 5 && is_take(line) {
-        take(&mut receiver, line)
-    } else {
-        return None;
+    let answer = match (fields, letter(line, 0)?) {
+        (3, b'f') => {
+            let leader = receivers[low(line, 2)?];
+            told(receiver.sync_to_demodulator(&leader?), ok())
+        }
+        (5, b's') => sample(&mut receiver, line)?,
+        (5, b't') => take(&mut receiver, line, false)?,
+        // Told with its slot's closing counter.
+        (5, b'T') => take(&mut receiver, line, true)?,
+        _ => return None,
     };
     receivers[r] = Some(receiver);
     Some(answer)

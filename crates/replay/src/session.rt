@@ -1,9 +1,6 @@
 // What a list of calls works on besides receivers: a lone filter line, and a sender with its phase record.
-use crate::answer::{error, ok, refused, sample};
-use crate::field::{
-    LARGEST_U32, bits, count, counter, has_digits, is_counter, is_sample, letter, narrow, number,
-};
-use crate::input::{Block, put};
+use crate::answer::{ok, refused, sample};
+use crate::field::{Block, bits, count, counter, letter, number, put};
 use crate::{field, stateless};
 use dsp_types::{ComplexSample, TdmaTime};
 use fir::FirComplexSym;
@@ -25,13 +22,6 @@ pub struct Session {
     sender: Option<Sender>,
 }
 
-// Whether the line is a call of the sender. Bits that are given as `-` are none.
-fn is_send(line: &[u8]) -> bool {
-    is_counter(line, 1)
-        && number(line, 2) <= LARGEST_U32
-        && (letter(line, 3) == b'-' || has_digits(line, 3))
-}
-
 impl Sender {
     fn new() -> Sender {
         Sender {
@@ -40,27 +30,25 @@ impl Sender {
         }
     }
 
-    // One sample, as a block of one.
-    fn send(&mut self, line: &[u8], values: &Block) -> Text {
+    // One sample, as a block of one. Bits that are given as `-` are none.
+    fn send(&mut self, line: &[u8], values: &Block) -> Option<Text> {
+        let counter = counter(line, 1)?;
+        let time = TdmaTime(number(line, 2)?);
+        let bits = match letter(line, 3) {
+            Some(b'-') => None,
+            _ => Some(bits(line, values, 3)?),
+        };
         let mut parts = [0.0f32; 2];
-        let sent = self.modulator.block(
-            &mut self.mapper,
-            counter(line, 1),
-            TdmaTime(narrow(number(line, 2))),
-            if letter(line, 3) == b'-' {
-                None
-            } else {
-                Some(bits(line, values, 3))
-            },
-            &mut parts,
-        );
-        match sent.refusal {
+        let sent = self
+            .modulator
+            .block(&mut self.mapper, counter, time, bits, &mut parts);
+        Some(match sent.refusal {
             None => sample(ComplexSample {
                 re: parts[0],
                 im: parts[1],
             }),
             Some(refusal) => refused(refusal.number()),
-        }
+        })
     }
 }
 
@@ -73,33 +61,31 @@ impl Session {
     }
 
     // The filter line or the sender anew.
-    fn renew(&mut self, line: &[u8]) -> Text {
+    fn renew(&mut self, line: &[u8]) -> Option<Text> {
         if is_word(line, b"lnew") {
             self.filter = FirComplexSym::new();
         } else if is_word(line, b"txnew") {
             self.sender = Some(Sender::new());
         } else {
-            return error();
+            return None;
         }
-        ok()
+        Some(ok())
     }
 
-    // Makes the call of the block's line of that length, and gives its answer.
-    pub(crate) fn step(&mut self, block: &Block, len: usize) -> Text {
-        let line = text::front(block, len);
-        let name = letter(line, 0);
+    // Makes the call of a line, if it is one.
+    pub(crate) fn step(&mut self, line: &[u8]) -> Option<Text> {
         let count = count(line);
         if count == 1 {
             return self.renew(line);
         }
-        if count == 3 && name == b'l' && is_sample(line, 1) {
-            return sample(self.filter.sample(field::sample(line, 1)));
+        let name = letter(line, 0)?;
+        if count == 3 && name == b'l' {
+            return Some(sample(self.filter.sample(field::sample(line, 1)?)));
         }
         let mut values = [0u8; 65536];
-        put(&mut values, 0, line, b'0');
+        put(&mut values, line);
         if count == 4
             && name == b'w'
-            && is_send(line)
             && let Some(sender) = &mut self.sender
         {
             return sender.send(line, &values);

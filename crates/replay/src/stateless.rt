@@ -1,9 +1,6 @@
 // The calls that work on nothing that is kept: burst builders, the logger's call, magnitude and quarter turns.
-use crate::answer::{burst, error, float, refused, with_number};
-use crate::field::{
-    LARGEST_U32, bits, count, digits, has_digits, is_sample, letter, narrow, number, sample,
-};
-use crate::input::Block;
+use crate::answer::{burst, float, refused, with_number};
+use crate::field::{Block, bits, count, digits, letter, number, sample};
 use crate::uplink;
 use block_text::BurstType;
 use dsp_types::Refusal;
@@ -17,32 +14,24 @@ fn built(answer: Result<Burst, Refusal>) -> Text {
 }
 
 // A burst from its letter and its blocks' characters, joined.
-fn build_joined(line: &[u8]) -> Text {
-    let kind = letter(line, 1);
-    if kind.is_ascii_alphabetic() && has_digits(line, 2) {
-        built(block_text::answer(BurstType::of_letter(kind), digits(line, 2)))
-    } else {
-        error()
+fn build_joined(line: &[u8]) -> Option<Text> {
+    let kind = letter(line, 1)?;
+    if !kind.is_ascii_alphabetic() {
+        return None;
     }
+    let characters = digits(line, 2)?;
+    Some(built(block_text::answer(BurstType::of_letter(kind), characters)))
 }
 
 // A burst from three slices.
-fn build(line: &[u8], values: &Block) -> Text {
-    if !(has_digits(line, 2) && has_digits(line, 3) && has_digits(line, 4)) {
-        return error();
-    }
-    let blk1 = bits(line, values, 2);
-    let bbk = bits(line, values, 3);
-    let blk2 = bits(line, values, 4);
-    if letter(line, 1) == b'S' {
-        return built(build_sdb(blk1, bbk, blk2));
-    }
-    let train = number(line, 1);
-    if train <= LARGEST_U32 {
-        built(build_ndb(narrow(train), blk1, bbk, blk2))
-    } else {
-        error()
-    }
+fn build(line: &[u8], values: &Block) -> Option<Text> {
+    let blk1 = bits(line, values, 2)?;
+    let bbk = bits(line, values, 3)?;
+    let blk2 = bits(line, values, 4)?;
+    Some(built(match letter(line, 1) {
+        Some(b'S') => build_sdb(blk1, bbk, blk2),
+        _ => build_ndb(number(line, 1)?, blk1, bbk, blk2),
+    }))
 }
 
 // The logger's call with so many answer bytes, of which there are enough.
@@ -71,59 +60,33 @@ fn judged(kind: u32, bits: &[u8], len: usize) -> Text {
 }
 
 // Has bits judged.
-fn judge(line: &[u8], values: &Block) -> Text {
-    let kind = number(line, 1);
-    let len = number(line, 2);
-    if kind <= LARGEST_U32 && len <= 4096 && has_digits(line, 3) {
-        judged(narrow(kind), bits(line, values, 3), len as usize)
+fn judge(line: &[u8], values: &Block) -> Option<Text> {
+    let kind = number(line, 1)?;
+    let len = number(line, 2)? as usize;
+    let bits = bits(line, values, 3)?;
+    if len <= 4096 {
+        Some(judged(kind, bits, len))
     } else {
-        error()
+        None
     }
 }
 
-fn on_sample(line: &[u8]) -> Text {
-    let x = sample(line, 1);
-    match letter(line, 0) {
-        b'm' => float(magnitude(x.re, x.im)),
-        b'a' => float(quarter_turns(x.re, x.im)),
-        _ => error(),
-    }
-}
-
-fn of_three(line: &[u8], values: &mut Block) -> Text {
-    match letter(line, 0) {
-        b'b' => build_joined(line),
-        b'c' => uplink::build_control(line, values),
-        _ => {
-            if is_sample(line, 1) {
-                on_sample(line)
-            } else {
-                error()
-            }
+// The answer to a line, of which the block has the digits' values, if it is a call.
+pub(crate) fn answer(line: &[u8], values: &mut Block) -> Option<Text> {
+    match (count(line), letter(line, 0)?) {
+        (3, b'b') => build_joined(line),
+        (3, b'c') => uplink::build_control(line, values),
+        (3, b'm') => {
+            let x = sample(line, 1)?;
+            Some(float(magnitude(x.re, x.im)))
         }
-    }
-}
-
-fn of_four(line: &[u8], values: &mut Block) -> Text {
-    match letter(line, 0) {
-        b'j' => judge(line, &*values),
-        b'u' => uplink::build_normal(line, values),
-        _ => error(),
-    }
-}
-
-// The answer to a line, of which the block has the digits' values. What is no call is answered by `error`.
-pub(crate) fn answer(line: &[u8], values: &mut Block) -> Text {
-    match count(line) {
-        3 => of_three(line, values),
-        4 => of_four(line, values),
-        5 => {
-            if letter(line, 0) == b'd' {
-                build(line, &*values)
-            } else {
-                error()
-            }
+        (3, b'a') => {
+            let x = sample(line, 1)?;
+            Some(float(quarter_turns(x.re, x.im)))
         }
-        _ => error(),
+        (4, b'j') => judge(line, &*values),
+        (4, b'u') => uplink::build_normal(line, values),
+        (5, b'd') => build(line, &*values),
+        _ => None,
     }
 }
