@@ -3,9 +3,6 @@
 ghost use Rattle.std.specs.Prelude.{◌≡◌};
 ghost use Rattle.dsp_types.specs.Answers.{number_of, answer_number};
 
-use std::error::Error;
-use std::fmt;
-
 #[derive(Clone, Copy, Debug, PartialEq, Eq)]
 pub enum Refusal {
     // A sample part is NaN, infinite, or beyond 1,024 either side of zero.
@@ -39,14 +36,6 @@ impl Refusal {
         self as u32
     }
 }
-
-impl fmt::Display for Refusal {
-    fn fmt<W: fmt::Write>(&self, f: &mut fmt::Formatter<W>) -> fmt::Result {
-        write!(f, "{}", self.number())
-    }
-}
-
-impl Error for Refusal {}
 
 // 0 for a call that was accepted, else the refusal's number: what C is told.
 pub fn answer_number<T>(answer: &Result<T, Refusal>) -> u32

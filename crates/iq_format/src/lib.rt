@@ -94,7 +94,7 @@ fn read<B: Copy, F: Fn(B) -> f32>(raw: &[B], parts: &mut [f32], part: F) -> usiz
     ensures rest { drop result parts.new ≡ drop result parts.old }
 {
     let count = parts.len().min(raw.len());
-    // By index, as in `encode`: of what `iter_mut` in a zip and `chunks_exact_mut` lend, nothing is known after the loop.
+    // By index: of what `iter_mut` in a zip and `chunks_exact_mut` lend, nothing is known after the loop.
     for n in 0..count {
         parts[n] = part(raw[n]);
     }
@@ -119,6 +119,7 @@ pub fn encode(parts: &[f32], bytes: &mut [u8]) -> usize
     ensures bytes { bytes.new ≡ part_bytes (take result parts.now) ++ drop (4 * result) bytes.old }
 {
     let count = parts.len().min(bytes.len() / 4);
+    // By index, as in `read`.
     for n in 0..count {
         let w = pattern(parts[n]);
         bytes[4 * n] = (w % 0x100) as u8;

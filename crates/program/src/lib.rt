@@ -113,7 +113,8 @@ pub fn open<H: Host>(rt: &H, program: &[u8], at: Option<usize>) -> Option<Source
     None
 }
 
-// The first word that asks for something decides; names are kept.
+// The first word that asks for something decides; names are kept. Words are counted first, since one that is missing is read as an
+// empty one.
 fn read_words<H: Host>(rt: &H) -> Result<Asked, Wrong> {
     let mut words = Words::new();
     let mut name = None;

@@ -4,3 +4,4 @@ mod Feeding
 mod Keeping
 mod Rows
 mod Views
+mod Told

@@ -20,7 +20,7 @@ pub data Stopped : Type 0 where
   at_end at_slot : Stopped
   at_refusal : ℕ → Stopped
 
--- .. in these terms: no two of its cases come to the same
+-- .. in these terms: no two of its cases come to the same (`told_apart` of proofs/Told.antt)
 unfoldable pub stopped : Stop → Stopped
 stopped End = at_end
 stopped Slot = at_slot

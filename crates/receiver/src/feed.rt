@@ -87,6 +87,7 @@ impl State {
         let mut y = [0.0f32; PIECE];
         let mut counter = first;
         let mut taken: usize = 0;
+        // A step is a row of any length, or one sample: no walk over items.
         while taken < samples.len() / 2 {
             let len = parts_of(samples, taken, self.quiet_samples(counter), &mut x, &mut y);
             if 0 < len {

@@ -13,6 +13,7 @@ fn fill(bits: &[u8], out: &mut [u8])
     ensures { out.new ≡ padded (length out.old) (map (λ b. b % 2) bits.now) }
 {
     let n = bits.len().min(out.len());
+    // By index: of what `iter_mut` in a zip lends, nothing is known after the loop.
     for (i, bit) in bits[..n].iter().enumerate() {
         out[i] = bit % 2;
     }

@@ -132,7 +132,8 @@ impl Links {
 }
 
 // Hears samples of both links, re and im in turn, with the counters from first on, for which it is called again until all are
-// done with: the downlink leads up to a slot, then the uplink comes after it, and then it follows.
+// done with: the downlink leads up to a slot, then the uplink comes after it, and then it follows. Each past is lent as three
+// arrays, as C lends it.
 pub fn hear_links(
     links: &mut Links,
     re: &mut [f32; 2048],

@@ -8,3 +8,4 @@ pub mod Outcomes
 pub mod Taken
 pub mod Accepted
 pub mod Closing
+mod Told

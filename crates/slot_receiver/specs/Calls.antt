@@ -91,7 +91,7 @@ followed r other = record { reply = done; receiver = following other.mode r othe
 unfoldable pub follow_outcome : Receiver → Receiver → Outcome
 follow_outcome r other = unless (follow_refusal r.mode) r [] (followed r other)
 
--- ---- 01's number and values of each answer: no two answers tell the same
+-- ---- 01's number and values of each answer: no two answers tell the same (`told_apart`, `take_told_apart` of proofs/Told.antt)
 
 unfoldable pub reply_of : Result (Unit {0}) Refusal → Reply HandedSlot
 reply_of (Ok x) = done

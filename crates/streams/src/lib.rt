@@ -42,6 +42,7 @@ fn write_some<C: Clock, W: Write>(rt: &C, to: &mut W, bytes: &[u8]) -> io::Resul
     ensures bound { WritesAtMost result bytes.now }
     ensures bytes { WriteAppends (W.contents to.old) (W.contents to.new) result bytes.now }
 {
+    // As in `read`.
     for _ in 0..u64::MAX {
         match to.write(bytes) {
             Ok(n) => return Ok(n),

@@ -42,6 +42,7 @@ impl Downlink {
         let count = parts.len() / 2;
         let start = self.tally.counter;
         let mut at: usize = 0;
+        // A proved loop has to end: it counts to a number that no run reaches.
         for _ in 0..u64::MAX {
             if !self.tally.is_open || count <= at {
                 break;
@@ -75,6 +76,7 @@ pub(crate) fn receive<H: Host, R: Read + Drop>(rt: &H, from: R, options: Options
         receiver: State::new(Mode::DlUnsynchronized),
         tally: Tally::new(rt, options),
     };
+    // As above; nothing says that the input ends.
     for _ in 0..u64::MAX {
         if !downlink.tally.is_open || input.is_over {
             break;

@@ -93,6 +93,7 @@ impl Text {
     {
         let mut characters = [0u8; 2048];
         let count = bits.len().min(2048);
+        // By index: of what `iter_mut` in a zip lends, nothing is known after the loop.
         for i in 0..count {
             characters[i] = character_of(bits[i]);
         }

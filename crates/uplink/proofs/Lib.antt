@@ -2,3 +2,4 @@ pub mod Found
 pub mod Judging
 pub mod Taking
 pub mod Examples
+mod Told

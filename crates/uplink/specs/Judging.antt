@@ -18,6 +18,7 @@ pub record Told : Type 0 where
   pub refusal : ℕ
   pub answer : List ℕ
 
+-- .. of what a call gave: no two of these tell the same (`told_apart` of proofs/Told.antt)
 unfoldable pub told : Judged → Told
 told j = record { number = answer_number j.built; finding = j.finding; refusal = answer_number j.judged; answer = j.answer }
 
