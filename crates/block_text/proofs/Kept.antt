@@ -12,7 +12,7 @@ use Rattle.dsp_types.specs.Refusals.{wrong_length}
 use Rattle.slotter.specs.Bursts.{refusal}
 use Rattle.text.specs.Text.{ascii, trimmed}
 use Rattle.text.proofs.Trimming.{trimmed_append}
-use Rattle.block_text.specs.BlockText.{wanted, not_characters, wrong_count, refusal_of, answer_of}
+use Rattle.block_text.specs.BlockText.{wanted, not_characters, wrong_count, characters_refusal, answer_of}
 use Rattle.block_text.specs.UplinkLines.{first_word, after_word, offset_of, not_offset, uplink_wanted, uplink_slot}
 use Rattle.block_text.specs.declared.slot.Complaint.TheVariants.{NotBits, Offset}
 use Rattle.block_text.specs.Lines.{Wish, starts_with, none, silence, burst, uplink, unknown, asked_uplink, asked, Sent, passed, reported, answered, refused, placed, length_complaint, uplink_sent, sent_for, sent_of}
@@ -27,7 +27,7 @@ starts (w ∷ word) (b ∷ line) rest h = ap (λ (x : Bool). eqb b w && x) (star
 
 -- more characters than a burst has are refused for their number
 too_many : (type : ℕ) (cs : List ℕ) → eqb type 0 ≡ false → 463 ≤ length cs → answer_of type cs ≡ refusal 3
-unfolding answer_of refusal_of wrong_count wrong_length
+unfolding answer_of characters_refusal wrong_count wrong_length
 too_many type cs e h = rw (ne_eqb (length cs) (wanted type) (λ (w : length cs ≡ wanted type). omega (arith, w, wanted_most type)), e)
 
 -- .. and those of an uplink's burst behind its offset, if that is one

@@ -6,15 +6,15 @@ use Rattle.block_text.specs.declared.BurstType.{BurstType}
 use Rattle.block_text.specs.declared.BurstType.TheVariants.{Normal1, Normal2, Sync}
 
 -- a burst type's number (01, "Slot bits and burst views")
-abbrev pub type_number : BurstType → ℕ
-type_number Normal1 = 1
-type_number Normal2 = 2
-type_number Sync = 4
+abbrev pub downlink_type : BurstType → ℕ
+downlink_type Normal1 = 1
+downlink_type Normal2 = 2
+downlink_type Sync = 4
 
 -- .. and 0 for none
 abbrev pub type_or_0 : Option BurstType → ℕ
 type_or_0 None = 0
-type_or_0 (Some type) = type_number type
+type_or_0 (Some type) = downlink_type type
 
 -- the burst type that a letter asks for (01, "Slot bits and burst views"): S 4, N 1, P 2, another letter 0
 unfoldable pub letter_type : ℕ → ℕ
@@ -38,8 +38,8 @@ unfoldable pub wrong_count : ℕ → List ℕ → Bool
 wrong_count type characters = not (eqb type 0) && wrong_length (wanted type) characters
 
 -- their refusal
-unfoldable pub refusal_of : ℕ → List ℕ → ℕ
-refusal_of type characters =
+unfoldable pub characters_refusal : ℕ → List ℕ → ℕ
+characters_refusal type characters =
     cond (wrong_count type characters) bad_length
     (cond (not_characters characters) bad_bit
     (cond (eqb type 0) bad_training accepted))
@@ -56,7 +56,7 @@ burst_of type bits =
 
 -- the answer to a letter of that type and its characters
 unfoldable pub answer_of : ℕ → List ℕ → BuilderReply
-answer_of type characters = pick (refusal_of type characters)
+answer_of type characters = pick (characters_refusal type characters)
   where
     pick : ℕ → BuilderReply
     pick zero = burst_of type (map character_bit characters)

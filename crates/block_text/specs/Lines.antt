@@ -4,8 +4,8 @@ use Rattle.text.specs.Text.{ascii, trimmed}
 use Rattle.dsp_types.specs.Refusals.{accepted, bad_bit, wrong_length}
 use Rattle.slotter.specs.Bursts.{BuilderReply}
 use Rattle.block_text.specs.declared.line.Asked.{Asked}
-use Rattle.block_text.specs.BlockText.{type_number, not_characters, answer_of}
-use Rattle.block_text.specs.UplinkLines.{uplink_number, first_word, after_word, offset_of, not_offset, uplink_wanted, uplink_slot}
+use Rattle.block_text.specs.BlockText.{downlink_type, not_characters, answer_of}
+use Rattle.block_text.specs.UplinkLines.{uplink_type, first_word, after_word, offset_of, not_offset, uplink_wanted, uplink_slot}
 use Rattle.block_text.specs.declared.line.Asked.TheVariants.{Nothing, Empty, Burst, Uplink, Unknown}
 use Rattle.block_text.specs.declared.slot.Complaint.{Complaint}
 use Rattle.block_text.specs.declared.slot.Complaint.TheVariants.{NotBits, SyncLength, NormalLength, UplinkLength, ControlLength, Offset}
@@ -23,8 +23,8 @@ pub data Wish : Type 0 where
 unfoldable pub asked_of : Asked → Wish
 asked_of Nothing = none
 asked_of Empty = silence
-asked_of (Burst type characters) = burst (type_number type) characters.now
-asked_of (Uplink type text) = uplink (uplink_number type) text.now
+asked_of (Burst type characters) = burst (downlink_type type) characters.now
+asked_of (Uplink type text) = uplink (uplink_type type) text.now
 asked_of Unknown = unknown
 
 -- a line starts with a word

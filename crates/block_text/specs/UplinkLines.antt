@@ -6,10 +6,10 @@ use Rattle.block_text.specs.declared.uplink.UplinkType.{UplinkType}
 use Rattle.block_text.specs.declared.uplink.UplinkType.TheVariants.{Normal1, Normal2, Control}
 
 -- the number of an uplink burst's type: of a normal burst its training sequence, of a control burst 3
-abbrev pub uplink_number : UplinkType → ℕ
-uplink_number Normal1 = 1
-uplink_number Normal2 = 2
-uplink_number Control = 3
+abbrev pub uplink_type : UplinkType → ℕ
+uplink_type Normal1 = 1
+uplink_type Normal2 = 2
+uplink_type Control = 3
 
 -- the bytes before the first blank
 unfoldable pub first_word : List ℕ → List ℕ

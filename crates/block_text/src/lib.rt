@@ -8,7 +8,7 @@ mod uplink;
 ghost use Rattle.std.specs.Prelude.{◌≡◌, map, length, None, Some, IfOk, IfSome};
 ghost use Rattle.dsp_types.specs.Answers.{answer_number};
 ghost use Rattle.slotter.specs.Bursts.{builder_reply};
-ghost use Rattle.block_text.specs.BlockText.{type_number, type_or_0, letter_type, wanted, not_character, not_characters, refusal_of, character_bit, burst_of, answer_of};
+ghost use Rattle.block_text.specs.BlockText.{downlink_type, type_or_0, letter_type, wanted, not_character, not_characters, characters_refusal, character_bit, burst_of, answer_of};
 
 use dsp_types::Refusal;
 pub use line::push;
@@ -38,7 +38,7 @@ impl BurstType {
     }
 
     pub fn number(self) -> u32
-        ensures { result ≡ type_number self }
+        ensures { result ≡ downlink_type self }
     {
         self as u32
     }
@@ -46,7 +46,7 @@ impl BurstType {
     // How many characters the blocks have.
     #[tactic(auto, unfolding(crate::specs::BlockText::wanted))]
     fn length(self) -> usize
-        ensures { result ≡ wanted (type_number self) }
+        ensures { result ≡ wanted (downlink_type self) }
     {
         match self {
             BurstType::Sync => 366,
@@ -71,11 +71,11 @@ fn not_characters(characters: &[u8]) -> bool
 }
 
 // The burst type behind a letter, whose characters are not refused.
-#[tactic(auto, unfolding(crate::specs::BlockText::refusal_of, crate::specs::BlockText::wrong_count, dsp_types::specs::Refusals::wrong_length))]
+#[tactic(auto, unfolding(crate::specs::BlockText::characters_refusal, crate::specs::BlockText::wrong_count, dsp_types::specs::Refusals::wrong_length))]
 fn judged_type(burst_type: Option<BurstType>, characters: &[u8]) -> Result<BurstType, Refusal>
-    ensures refusal { answer_number result ≡ refusal_of (type_or_0 burst_type) characters.now }
+    ensures refusal { answer_number result ≡ characters_refusal (type_or_0 burst_type) characters.now }
     ensures known { IfOk result (λ t. burst_type ≡ Some t) }
-    ensures length { IfOk result (λ t. length characters.now ≡ wanted (type_number t)) }
+    ensures length { IfOk result (λ t. length characters.now ≡ wanted (downlink_type t)) }
 {
     let is_counted = match burst_type {
         Some(known) => characters.len() == known.length(),
@@ -113,8 +113,8 @@ fn bits_of<const N: usize>(characters: &[u8]) -> [u8; N]
 // The burst of a type, from the characters of its blocks.
 #[tactic(auto, unfolding(crate::specs::BlockText::wanted))]
 fn burst_of(burst_type: BurstType, characters: &[u8]) -> Result<Burst, Refusal>
-    requires { length characters.now ≡ wanted (type_number burst_type) }
-    ensures { builder_reply result ≡ burst_of (type_number burst_type) (map character_bit characters.now) }
+    requires { length characters.now ≡ wanted (downlink_type burst_type) }
+    ensures { builder_reply result ≡ burst_of (downlink_type burst_type) (map character_bit characters.now) }
 {
     match burst_type {
         BurstType::Sync => {

@@ -1,7 +1,7 @@
 // The slot that a line asks for, and what is said of a line that cannot be sent.
 ghost use Rattle.std.specs.Prelude.{◌≡◌, Some};
 ghost use Rattle.dsp_types.specs.Answers.{number_of};
-ghost use Rattle.block_text.specs.BlockText.{type_number, answer_of};
+ghost use Rattle.block_text.specs.BlockText.{downlink_type, answer_of};
 ghost use Rattle.block_text.specs.Lines.{asked, answered, sent_for, complaint_of, complaint_for, complaint_in, slots_for, slots_of};
 
 use crate::line::{Asked, read};
@@ -57,7 +57,7 @@ pub enum LineSlot {
 // What is wrong with the characters of a burst of that type, which are refused.
 #[tactic(auto, unfolding(crate::specs::Lines::complaint_of))]
 fn complaint_of(burst_type: BurstType, refusal: Refusal) -> Complaint
-    ensures { Some result ≡ complaint_of (type_number burst_type) (number_of refusal) }
+    ensures { Some result ≡ complaint_of (downlink_type burst_type) (number_of refusal) }
 {
     if refusal == Refusal::BadBit {
         return Complaint::NotBits;
@@ -69,8 +69,8 @@ fn complaint_of(burst_type: BurstType, refusal: Refusal) -> Complaint
 }
 
 fn burst_slot(burst_type: BurstType, characters: &[u8]) -> Result<LineSlot, Complaint>
-    ensures slots { slots_of result ≡ slots_for (answered (type_number burst_type) (answer_of (type_number burst_type) characters.now)) }
-    ensures complaint { complaint_in result ≡ complaint_for (answered (type_number burst_type) (answer_of (type_number burst_type) characters.now)) }
+    ensures slots { slots_of result ≡ slots_for (answered (downlink_type burst_type) (answer_of (downlink_type burst_type) characters.now)) }
+    ensures complaint { complaint_in result ≡ complaint_for (answered (downlink_type burst_type) (answer_of (downlink_type burst_type) characters.now)) }
 {
     match answer(Some(burst_type), characters) {
         Ok(burst) => Ok(LineSlot::Bits(burst.bits)),

@@ -1,7 +1,7 @@
 // The slot that an uplink line asks for: a burst at an offset.
 ghost use Rattle.std.specs.Prelude.{◌≡◌, ◌+◌, ◌<◌, ◌≤◌, [], length, take, drop, true, false, Some, MatchOption};
 ghost use Rattle.slotter.specs.Uplink.{uplink_reply, uplink_bits, placed};
-ghost use Rattle.block_text.specs.UplinkLines.{uplink_number, first_word, after_word, digit_of, offset_of, not_offset, uplink_wanted, uplink_slot};
+ghost use Rattle.block_text.specs.UplinkLines.{uplink_type, first_word, after_word, digit_of, offset_of, not_offset, uplink_wanted, uplink_slot};
 ghost use Rattle.block_text.specs.Lines.{uplink, length_complaint, sent_for, slots_for, slots_of, complaint_for, complaint_in};
 
 use crate::slot::{Complaint, LineSlot};
@@ -18,7 +18,7 @@ pub(crate) enum UplinkType {
 
 impl UplinkType {
     fn number(self) -> u32
-        ensures { result ≡ uplink_number self }
+        ensures { result ≡ uplink_type self }
     {
         self as u32
     }
@@ -26,7 +26,7 @@ impl UplinkType {
     // How many bits both blocks have.
     #[tactic(auto, unfolding(crate::specs::UplinkLines::uplink_wanted))]
     fn length(self) -> usize
-        ensures { result ≡ uplink_wanted (uplink_number self) }
+        ensures { result ≡ uplink_wanted (uplink_type self) }
     {
         match self {
             UplinkType::Control => 168,
@@ -37,7 +37,7 @@ impl UplinkType {
     // What is wrong where they have another number.
     #[tactic(auto, unfolding(crate::specs::Lines::length_complaint))]
     fn length_complaint(self) -> Complaint
-        ensures { result ≡ length_complaint (uplink_number self) }
+        ensures { result ≡ length_complaint (uplink_type self) }
     {
         match self {
             UplinkType::Control => Complaint::ControlLength,
@@ -108,8 +108,8 @@ fn placed<const N: usize>(offset: usize, burst: Result<[u8; N], Refusal>) -> [u8
 // A slot's bits with the burst of a type at the offset.
 #[tactic(auto, unfolding(crate::specs::UplinkLines::uplink_wanted))]
 fn placed_burst(burst_type: UplinkType, offset: usize, characters: &[u8]) -> [u8; 510]
-    requires { length characters.now ≡ uplink_wanted (uplink_number burst_type) }
-    ensures { result ≡ uplink_slot (uplink_number burst_type) offset characters.now }
+    requires { length characters.now ≡ uplink_wanted (uplink_type burst_type) }
+    ensures { result ≡ uplink_slot (uplink_type burst_type) offset characters.now }
 {
     match burst_type {
         UplinkType::Control => {
@@ -129,8 +129,8 @@ fn placed_burst(burst_type: UplinkType, offset: usize, characters: &[u8]) -> [u8
 // The slot of an uplink burst of that type, from what stands behind its word.
 #[tactic(auto, unfolding(crate::specs::Lines::sent_for, crate::specs::Lines::uplink_sent, crate::specs::Lines::slots_for, crate::specs::Lines::complaint_for, dsp_types::specs::Refusals::wrong_length))]
 pub(crate) fn uplink_slot(burst_type: UplinkType, text: &[u8]) -> Result<LineSlot, Complaint>
-    ensures slots { slots_of result ≡ slots_for (sent_for (uplink (uplink_number burst_type) text.now)) }
-    ensures complaint { complaint_in result ≡ complaint_for (sent_for (uplink (uplink_number burst_type) text.now)) }
+    ensures slots { slots_of result ≡ slots_for (sent_for (uplink (uplink_type burst_type) text.now)) }
+    ensures complaint { complaint_in result ≡ complaint_for (sent_for (uplink (uplink_type burst_type) text.now)) }
 {
     let (word, characters) = split_word(text);
     let offset = offset_of(word).ok_or(Complaint::Offset)?;

@@ -3,8 +3,9 @@
 
 ghost use Rattle.std.specs.Prelude.{◌≡◌, ◌+◌, ◌≤◌, ◌<◌, length};
 ghost use Rattle.burst_finder.specs.Search.{placings, find_sequence, below, find_sync};
-ghost use Rattle.burst_finder.specs.Slots.{most_errors, type_number, not_found, check_sequence, check_normal, check_slot, get_burst, IsChecked};
+ghost use Rattle.burst_finder.specs.Slots.{most_errors, type_number, kind_number, not_found, check_sequence, check_normal, check_slot, get_burst, IsChecked};
 
+use dsp_types::Refusal;
 use train_consts::{SEQ_EXT, SEQ_NORM1, SEQ_NORM2, SEQ_SYNC};
 
 // The best placing of a sequence in bits, and how many bits differ there.
@@ -35,11 +36,40 @@ impl TrainingSequence {
 #[derive(Clone, Copy, Debug, PartialEq, Eq)]
 pub enum SlotType {
     // Downlink slot.
-    Dl,
+    Dl = 0,
     // Uplink full slot.
-    UlFull,
+    UlFull = 1,
     // Uplink subslot.
-    UlSub,
+    UlSub = 2,
+}
+
+impl SlotType {
+    // The number that the logger asks with.
+    pub fn number(self) -> u32
+        ensures { result ≡ kind_number self }
+    {
+        self as u32
+    }
+}
+
+impl TryFrom<u32> for SlotType {
+    type Error = Refusal;
+
+    ghost use Rattle.std.specs.Prelude.{◌≡◌, Ok, Err, nat_lt, if◌then◌else◌};
+    ghost use Rattle.dsp_types.specs.declared.refusals.Refusal.TheVariants.{BadKind};
+    ghost use Rattle.burst_finder.specs.Slots.{slot_type_of};
+
+    ghost try_from_gives = { λ kind r. r ≡ (if nat_lt 2 kind then Err BadKind else Ok (slot_type_of kind)) };
+
+    #[tactic(auto, unfolding(crate::specs::Slots::slot_type_of))]
+    fn try_from(kind: u32) -> Result<SlotType, Refusal> {
+        match kind {
+            0 => Ok(SlotType::Dl),
+            1 => Ok(SlotType::UlFull),
+            2 => Ok(SlotType::UlSub),
+            _ => Err(Refusal::BadKind),
+        }
+    }
 }
 
 // The burst found in a slot's bits.

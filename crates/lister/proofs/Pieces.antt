@@ -13,7 +13,7 @@ use Rattle.dsp_types.specs.Refusals.{wrong_length}
 use Rattle.slotter.specs.Bursts.{refusal}
 use Rattle.text.specs.Text.{trimmed}
 use Rattle.text.proofs.Trimming.{trimmed_append, trimmed_length}
-use Rattle.block_text.specs.BlockText.{letter_type, wanted, not_character, not_characters, wrong_count, refusal_of, answer_of}
+use Rattle.block_text.specs.BlockText.{letter_type, wanted, not_character, not_characters, wrong_count, characters_refusal, answer_of}
 use Rattle.block_text.proofs.Blocks.{wanted_most}
 use Rattle.lister.specs.Listing.{listed_answer, listed, listing}
 
@@ -30,7 +30,7 @@ refilled xs ws h =
 
 -- the answer by the letter, and by whether a character is wrong
 long_answer : (k : ℕ) (cs : List ℕ) → 463 ≤ length cs → answer_of k cs ≡ refusal (cond (eqb k 0) (cond (not_characters cs) 4 5) 3)
-unfolding answer_of refusal_of wrong_count wrong_length
+unfolding answer_of characters_refusal wrong_count wrong_length
 long_answer k cs h =
     go (eqb k 0) (not_characters cs) refl refl (ne_eqb (length cs) (wanted k) (λ (e : length cs ≡ wanted k). omega (arith, e, wanted_most k)))
   where

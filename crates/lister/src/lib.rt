@@ -19,11 +19,8 @@ use text::Text;
 fn with_signed(text: Text, n: i32) -> Text
     ensures { result ≡ cut (text ++ signed_decimal n) }
 {
-    if n < 0 {
-        text.append(b"-").decimal((-1 - n) as u64 + 1)
-    } else {
-        text.decimal(n as u64)
-    }
+    let signed = if n < 0 { text.append(b"-") } else { text };
+    signed.decimal(n.unsigned_abs() as u64)
 }
 
 // What is printed of a refusal.
@@ -37,39 +34,29 @@ fn refused(refusal: Refusal) -> Text
 }
 
 // What is printed of a burst.
-fn built(burst_type: u32, first: i32, last: i32, burst: [u8; 510]) -> Text
-    ensures { result ≡ cut (burst_lines burst_type first last burst) }
+fn built(burst_type: Option<BurstType>, burst: Burst) -> Text
+    ensures { result ≡ cut (burst_lines (type_or_0 burst_type) burst.first_sum burst.last_sum burst.bits) }
 {
-    let bits: &[u8] = &burst;
-    let adj_first = &bits[12..14];
-    let adj_last = &bits[498..500];
-    let named = Text::new().append(b"kind=").type_name(burst_type);
-    let one = with_signed(named.append(b"\nsum_first="), first)
+    let adj_first = &burst.bits[12..14];
+    let adj_last = &burst.bits[498..500];
+    let number = burst_type.map_or(0, BurstType::number);
+    let named = Text::new().append(b"kind=").type_name(number);
+    let one = with_signed(named.append(b"\nsum_first="), burst.first_sum)
         .append(b"\nadj_first=")
         .bits(adj_first);
-    with_signed(one.append(b"\nsum_last="), last)
+    with_signed(one.append(b"\nsum_last="), burst.last_sum)
         .append(b"\nadj_last=")
         .bits(adj_last)
         .append(b"\n")
 }
 
-// What is printed of an answer to a letter that asks for the type with that number.
-fn print(burst_type: u32, answer: Result<Burst, Refusal>) -> Text
-    ensures { result ≡ cut (listed_answer burst_type (builder_reply answer)) }
+// What is printed of an answer to a letter that asks for that type.
+fn print(burst_type: Option<BurstType>, answer: Result<Burst, Refusal>) -> Text
+    ensures { result ≡ cut (listed_answer (type_or_0 burst_type) (builder_reply answer)) }
 {
     match answer {
-        Ok(burst) => built(burst_type, burst.first_sum, burst.last_sum, burst.bits),
+        Ok(burst) => built(burst_type, burst),
         Err(refusal) => refused(refusal),
-    }
-}
-
-// A burst type's number, or 0 for none.
-fn type_number(burst_type: Option<BurstType>) -> u32
-    ensures { result ≡ type_or_0 burst_type }
-{
-    match burst_type {
-        Some(known) => known.number(),
-        None => 0,
     }
 }
 
@@ -81,7 +68,7 @@ fn listing(input: &[u8]) -> Text
         return refused(Refusal::BadLength);
     };
     let burst_type = BurstType::of_letter(*letter);
-    print(type_number(burst_type), answer(burst_type, characters))
+    print(burst_type, answer(burst_type, characters))
 }
 
 // Keeps one byte more where there is no room. 465 bytes are too many for each of the three letters. Behind another letter what

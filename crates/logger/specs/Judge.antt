@@ -1,16 +1,10 @@
 -- The logger's call, which has kept bits judged again (01, "Slot bits and burst views", "Refusals"). Definitions only.
-use Rattle.std.specs.Prelude.{Bool, false, cond, ◌||◌, List, [], ◌∷◌, ℕ, zero, suc, ◌/◌, ◌%◌, ltb, eqb}
+use Rattle.std.specs.Prelude.{Bool, false, cond, ◌||◌, List, [], ◌∷◌, ℕ, ◌/◌, ◌%◌, ltb, eqb}
 use Rattle.dsp_types.specs.Refusals.{accepted, bad_length, bad_bit, bad_kind, wrong_length, not_bits}
 use Rattle.burst_finder.specs.declared.Finding.{Finding}
 use Rattle.burst_finder.specs.declared.SlotType.{SlotType}
 use Rattle.burst_finder.specs.declared.SlotType.TheVariants.{Dl, UlFull, UlSub}
-use Rattle.burst_finder.specs.Slots.{type_number, check_slot}
-
--- 01: a kind is 0 downlink, 1 uplink full, 2 uplink half; a number above 2 is refused
-unfoldable pub slot_type_of : ℕ → SlotType
-slot_type_of zero = Dl
-slot_type_of (suc zero) = UlFull
-slot_type_of (suc (suc n)) = UlSub
+use Rattle.burst_finder.specs.Slots.{type_number, slot_type_of, check_slot}
 
 -- 01: 510 bytes for kinds 0 and 1, 254 for 2
 unfoldable pub window_length : SlotType → ℕ

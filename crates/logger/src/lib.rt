@@ -1,25 +1,13 @@
 // The logger's call: kept window bits are judged again. From C it is `tetra_judge` of modem.
 #![tactic(auto)]
 
-ghost use Rattle.std.specs.Prelude.{◌≡◌, ◌<◌, ◌≤◌, length, None, Some, IfOk, nat_lt, if◌then◌else◌};
+ghost use Rattle.std.specs.Prelude.{◌≡◌, ◌<◌, ◌≤◌, length, IfOk};
 ghost use Rattle.dsp_types.specs.Answers.{answer_number};
-ghost use Rattle.logger.specs.Judge.{slot_type_of, window_length, judge_refusal, finding_bytes, judge_answer};
+ghost use Rattle.burst_finder.specs.Slots.{slot_type_of};
+ghost use Rattle.logger.specs.Judge.{window_length, judge_refusal, finding_bytes, judge_answer};
 
 use burst_finder::{Finding, SlotType};
 use dsp_types::{Refusal, not_bits};
-
-// The slot kind of a number; none where that is refused.
-#[tactic(auto, unfolding(crate::specs::Judge::slot_type_of))]
-fn slot_type(kind: u32) -> Option<SlotType>
-    ensures { result ≡ (if nat_lt 2 kind then None else Some (slot_type_of kind)) }
-{
-    match kind {
-        0 => Some(SlotType::Dl),
-        1 => Some(SlotType::UlFull),
-        2 => Some(SlotType::UlSub),
-        _ => None,
-    }
-}
 
 // How many bits a window of the kind has.
 #[tactic(auto, unfolding(crate::specs::Judge::window_length))]
@@ -41,10 +29,10 @@ fn judged_type(kind: u32, bits: &[u8], answer: &[u8]) -> Result<SlotType, Refusa
     ensures window { IfOk result (λ t. length bits.now ≤ 510) }
     ensures six { IfOk result (λ t. length answer.now ≡ 6) }
 {
-    let known = slot_type(kind);
+    let known = SlotType::try_from(kind);
     let is_window = match known {
-        Some(slot_type) => bits.len() == window_length(slot_type),
-        None => true,
+        Ok(slot_type) => bits.len() == window_length(slot_type),
+        Err(_) => true,
     };
     if answer.len() != 6 || !is_window {
         return Err(Refusal::BadLength);
@@ -52,7 +40,7 @@ fn judged_type(kind: u32, bits: &[u8], answer: &[u8]) -> Result<SlotType, Refusa
     if not_bits(bits) {
         return Err(Refusal::BadBit);
     }
-    known.ok_or(Refusal::BadKind)
+    known
 }
 
 // The six answer bytes of a finding.

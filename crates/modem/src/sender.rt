@@ -1,9 +1,10 @@
 // The sender: its state and its phase record go in by value, and the next ones come back.
 ghost use Rattle.std.specs.Prelude.{◌≡◌, ◌/◌, length};
 ghost use Rattle.std.specs.Option.{option_copied};
+ghost use Rattle.dsp_types.specs.Answers.{end_number};
 ghost use Rattle.mapper.specs.Due.{due_of};
 ghost use Rattle.modulator.specs.Sender.{sender_reply, new_sender, tells, sender_after};
-ghost use Rattle.modulator.specs.Blocks.{due_after, block_call, Wrote, end_number};
+ghost use Rattle.modulator.specs.Blocks.{due_after, block_call, Wrote};
 ghost use Rattle.modem.specs.Send.{bits_given, sender_in, sample_told};
 
 use dsp_types::{ComplexSample, Refusal, SampleCount, TdmaTime, answer_number};

@@ -41,19 +41,6 @@ pub struct TetraTaken {
     pub state: State,
 }
 
-// The mode of a number; any other than 1, 2 and 3 is Idle's.
-#[tactic(auto, unfolding(slot_receiver::specs::View::mode_of))]
-fn mode_of(number: u32) -> Mode
-    ensures { result ≡ mode_of number }
-{
-    match number {
-        1 => Mode::DlUnsynchronized,
-        2 => Mode::Dl,
-        3 => Mode::Ul,
-        _ => Mode::Idle,
-    }
-}
-
 // A refusal's slot is all zeros.
 fn empty_slot() -> RxSlot
     ensures { result ≡ empty_slot }
@@ -93,7 +80,7 @@ pub extern "C" fn tetra_state_new(mode: u32) -> State
     ensures receiver { receiver_of result (replicate 2048 zero_f) (replicate 2048 zero_f) (replicate 2048 zero_f) ≡ new (mode_of mode) }
     ensures mode { result.slots.mode ≡ mode_number (mode_of mode) }
 {
-    State::new(mode_of(mode))
+    State::new(Mode::from(mode))
 }
 
 // Takes one sample, or refuses it and leaves state and past as they are.

@@ -1,9 +1,7 @@
 -- A block call (01, "The sender"): the calls of its samples, one by one, up to the first that is refused. Definitions only.
-use Rattle.std.specs.Prelude.{ℕ, zero, suc, ◌+◌, ◌-◌, min, ◌≡◌, List, [], ◌∷◌, ◌++◌, ℤ, pos, ◌+ℤ◌, length, Option, Some, None, Result, Float}
+use Rattle.std.specs.Prelude.{ℕ, zero, suc, ◌+◌, ◌-◌, min, ◌≡◌, List, [], ◌∷◌, ◌++◌, ℤ, pos, ◌+ℤ◌, length, Option, Result, Float}
 use Rattle.std.specs.Option.{option_copied}
 use Rattle.dsp_types.specs.declared.ComplexSample.{ComplexSample}
-use Rattle.dsp_types.specs.declared.refusals.Refusal.{Refusal}
-use Rattle.dsp_types.specs.Answers.{number_of}
 use Rattle.dsp_types.specs.Refusals.{accepted, counters}
 use Rattle.fir.specs.Fir.{line_after, outs_of, start_with}
 use Rattle.mapper.specs.declared.Due.{Due}
@@ -45,11 +43,6 @@ due_after first slot bits i = due_of (first +ℤ pos i) slot bits
 unfoldable pub parts_of : List ComplexSample → List Float
 parts_of [] = []
 parts_of (x ∷ xs) = x.re ∷ x.im ∷ parts_of xs
-
--- the number of the refusal that ended a block, or 0
-abbrev pub end_number : Option Refusal → ℕ
-end_number None = accepted
-end_number (Some refusal) = number_of refusal
 
 -- what a block call leaves: the block's samples at the start of the buffer, how many they are, its refusal and its sender
 pub record Wrote (b : SentBlock) (count refusal : ℕ) (sender : Sender) (out out' : List Float) : Type 0 where

@@ -1,11 +1,11 @@
 // A block of samples in one call, for gateways: what the calls one by one would send.
 ghost use Rattle.std.specs.Prelude.{◌≡◌, cond, ◌+◌, ◌*◌, ◌/◌, ◌≤◌, ◌<◌, ◌^◌, eqb, length, take};
 ghost use Rattle.std.specs.Option.{option_copied};
-ghost use Rattle.dsp_types.specs.Answers.{number_of};
+ghost use Rattle.dsp_types.specs.Answers.{number_of, end_number};
 ghost use Rattle.dsp_types.specs.Refusals.{bad_counter, need_more_data, last_counter, counters};
 ghost use Rattle.fir.specs.Fir.{samples_of, start_with, re_of, im_of};
 ghost use Rattle.modulator.specs.Sender.{sender_of};
-ghost use Rattle.modulator.specs.Blocks.{due_after, block_call, parts_of, Wrote, slot_due, inputs_of, phases_of, fed_block, left_of, end_number};
+ghost use Rattle.modulator.specs.Blocks.{due_after, block_call, parts_of, Wrote, slot_due, inputs_of, phases_of, fed_block, left_of};
 
 use crate::sender::Modulator;
 use dsp_types::{COUNTERS, Refusal, SampleCount, TdmaTime};

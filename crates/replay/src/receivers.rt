@@ -102,15 +102,6 @@ fn told(answer: Result<(), Refusal>, accepted: Text) -> Text {
     }
 }
 
-fn mode_of(number: usize) -> Mode {
-    match number {
-        1 => Mode::DlUnsynchronized,
-        2 => Mode::Dl,
-        3 => Mode::Ul,
-        _ => Mode::Idle,
-    }
-}
-
 fn sample(receiver: &mut Demodulator, line: &[u8]) -> Option<Text> {
     let answer = receiver.sample(field::sample(line, 3)?, counter(line, 2)?);
     Some(told(answer, Text::new()))
@@ -133,8 +124,8 @@ pub(crate) fn serve(receivers: &mut Receivers, line: &[u8]) -> Option<Text> {
     let fields = count(line);
     let r = low(line, 1)?;
     if fields == 3 && is_word(field(line, 0), b"new") {
-        let mode = mode_of(low(line, 2)?);
-        receivers[r] = Some(Demodulator::new(mode));
+        let mode = low(line, 2)? as u32;
+        receivers[r] = Some(Demodulator::new(Mode::from(mode)));
         return Some(ok());
     }
     let called = receivers[r];

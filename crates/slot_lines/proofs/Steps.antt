@@ -14,6 +14,7 @@ use lib.Signed.{lt_z}
 use lib.Ieee.{Float}
 use Rattle.std.specs.Prelude.{Option, None, Some, is_some}
 use Rattle.dsp_types.specs.declared.refusals.Refusal.{Refusal}
+use Rattle.dsp_types.specs.Answers.{end_number}
 use Rattle.dsp_types.proofs.Numbers.{not_accepted}
 use Rattle.dsp_types.specs.declared.ComplexSample.{ComplexSample}
 use Rattle.dsp_types.specs.Samples.{silence}
@@ -26,15 +27,15 @@ use Rattle.slot_receiver.specs.Windows.{hands_over, accept_windows}
 use Rattle.slot_receiver.specs.Calls.{refused, Outcome, unless, sample_refusal, sampled, sample_outcome}
 use Rattle.receiver.specs.Feed.{interleaved, Stopped, at_end, at_slot, at_refusal, Block, fed_one, fed_by, feed_of}
 use Rattle.slot_text.specs.declared.Style.{Style}
-use Rattle.slot_lines.specs.Blocks.{refused_with, take_next, taken_if, taken_line, mended, Printed, printed_one, hear_one, before, printed, Step, stretch_by, stretch_of, mended_by, step_of, from_step}
+use Rattle.slot_lines.specs.Blocks.{take_next, taken_if, taken_line, mended, Printed, printed_one, hear_one, before, printed, Step, stretch_by, stretch_of, mended_by, step_of, from_step}
 
 -- ---- whether a sample was refused
 
-pub not_refused : (r : Option Refusal) → is_some r ≡ false → refused_with r ≡ 0
+pub not_refused : (r : Option Refusal) → is_some r ≡ false → end_number r ≡ 0
 not_refused None e = refl
 not_refused (Some refusal) e = cc
 
-pub is_refused : (r : Option Refusal) → is_some r ≡ true → refused_with r ≡ 0 → ⊥
+pub is_refused : (r : Option Refusal) → is_some r ≡ true → end_number r ≡ 0 → ⊥
 is_refused None e = cc
 is_refused (Some refusal) e = not_accepted refusal
 

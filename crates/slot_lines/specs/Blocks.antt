@@ -3,8 +3,7 @@ use Rattle.std.specs.Prelude.{ℕ, zero, suc, Bool, true, false, cond, ◌||◌,
 use Rattle.dsp_types.specs.declared.ComplexSample.{ComplexSample}
 use Rattle.dsp_types.specs.Refusals.{accepted, beyond}
 use Rattle.dsp_types.specs.Samples.{silence}
-use Rattle.dsp_types.specs.declared.refusals.Refusal.{Refusal}
-use Rattle.dsp_types.specs.Answers.{number_of}
+use Rattle.dsp_types.specs.Answers.{end_number}
 use Rattle.rx_slot.specs.Slots.{HandedSlot}
 use Rattle.slot_receiver.specs.Receiver.{Receiver}
 use Rattle.slot_receiver.specs.Windows.{hands_over}
@@ -89,11 +88,6 @@ from_step style s xs c = before s.heard.lines (printed style s.heard.receiver (d
 
 -- ---- as it is told: a refusal and a line are there or not
 
--- 01's number of a refusal, 0 where there is none
-abbrev pub refused_with : Option Refusal → ℕ
-refused_with None = accepted
-refused_with (Some refusal) = number_of refusal
-
 -- a line's bytes, none where there is none
 abbrev pub line_of : Option Text → List ℕ
 line_of None = []
@@ -101,4 +95,4 @@ line_of (Some line) = line
 
 -- the step that was made, with the receiver after it
 unfoldable pub step_made : Heard → Receiver → Step
-step_made h r = record { taken = h.taken; refusal = refused_with h.refusal; heard = record { lines = line_of h.line; slot = is_some h.line; receiver = r } }
+step_made h r = record { taken = h.taken; refusal = end_number h.refusal; heard = record { lines = line_of h.line; slot = is_some h.line; receiver = r } }

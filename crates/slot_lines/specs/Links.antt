@@ -1,6 +1,7 @@
 -- What a downlink prints and the uplink beside it, which follows it, on one axis of counters. Definitions only.
 use Rattle.std.specs.Prelude.{ℕ, zero, suc, ◌-◌, Bool, true, false, not, ◌&&◌, ◌||◌, List, [], ◌∷◌, ◌++◌, take, drop, ℤ, pos, ◌+ℤ◌, Float, is_some}
 use Rattle.std.specs.Int.Signed.{lt_z}
+use Rattle.dsp_types.specs.Answers.{end_number}
 use Rattle.dsp_types.specs.Times.{fitted}
 use Rattle.dsp_types.specs.declared.ComplexSample.{ComplexSample}
 use Rattle.slot_receiver.specs.declared.Mode.{Mode}
@@ -13,7 +14,7 @@ use Rattle.slot_text.specs.declared.Link.TheVariants.{Down, Up}
 use Rattle.slot_text.specs.declared.Style.{Style}
 use Rattle.slot_lines.specs.declared.links.Links.{Links}
 use Rattle.slot_lines.specs.declared.links.LinksHeard.{LinksHeard}
-use Rattle.slot_lines.specs.Blocks.{hear_one, step_of, refused_with, line_of}
+use Rattle.slot_lines.specs.Blocks.{hear_one, step_of, line_of}
 
 unfoldable pub down_style : Form → Bool → Style
 down_style form has_bits = record { form = form; has_bits = has_bits; link = Down }
@@ -156,4 +157,4 @@ unfoldable pub both_of : Links → (re im abs up_re up_im up_abs : List Float) �
 both_of l re im abs up_re up_im up_abs = record { down = receiver_of l.down re im abs; up = receiver_of l.up up_re up_im up_abs; begins = l.begins; behind = l.behind; slot = is_some l.line; line = line_of l.line }
 
 unfoldable pub both_made : LinksHeard → Links → (re im abs up_re up_im up_abs : List Float) → BothStep
-both_made h l re im abs up_re up_im up_abs = record { taken = h.taken; refusal = refused_with h.refusal; line = line_of h.line; is_shown = is_some h.line; both = both_of l re im abs up_re up_im up_abs }
+both_made h l re im abs up_re up_im up_abs = record { taken = h.taken; refusal = end_number h.refusal; line = line_of h.line; is_shown = is_some h.line; both = both_of l re im abs up_re up_im up_abs }

@@ -1,4 +1,4 @@
-// The numbers that a receiver's modes are stored as.
+// The numbers of a receiver's modes: it stores them, and C asks for a receiver by them.
 ghost use Rattle.std.specs.Prelude.{◌≡◌};
 ghost use Rattle.slot_receiver.specs.Receiver.{Receiver};
 ghost use Rattle.slot_receiver.specs.Windows.{kind_of, is_slot};
@@ -26,17 +26,29 @@ impl Mode {
     }
 }
 
-impl SlotReceiver {
-    // The mode that is stored; any number that is none's counts as an idle receiver's.
+// A number that is no mode's counts as Idle's.
+impl From<u32> for Mode {
+    ghost use Rattle.std.specs.Prelude.{◌≡◌};
+    ghost use Rattle.slot_receiver.specs.View.{mode_of};
+
+    ghost from_gives = { λ number mode. mode ≡ mode_of number };
+
     #[tactic(auto, unfolding(crate::specs::View::mode_of))]
-    pub fn mode(&self) -> Mode
-        ensures { result ≡ mode_of self.now.mode }
-    {
-        match self.mode {
+    fn from(number: u32) -> Mode {
+        match number {
             1 => Mode::DlUnsynchronized,
             2 => Mode::Dl,
             3 => Mode::Ul,
             _ => Mode::Idle,
         }
+    }
+}
+
+impl SlotReceiver {
+    // The mode that is stored.
+    pub fn mode(&self) -> Mode
+        ensures { result ≡ mode_of self.now.mode }
+    {
+        Mode::from(u32::from(self.mode))
     }
 }

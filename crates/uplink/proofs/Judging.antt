@@ -16,9 +16,9 @@ use Rattle.train_consts.specs.Training.{normal1, normal2, extended, tail}
 use Rattle.burst_finder.specs.declared.Finding.{Finding}
 use Rattle.burst_finder.specs.declared.SlotType.TheVariants.{UlFull, UlSub}
 use Rattle.burst_finder.specs.Search.{errors_at}
-use Rattle.burst_finder.specs.Slots.{check_slot, get_burst}
+use Rattle.burst_finder.specs.Slots.{slot_type_of, check_slot, get_burst}
 use Rattle.burst_finder.proofs.Findings.{view_is}
-use Rattle.logger.specs.Judge.{slot_type_of, window_length, wrong_window, finding_bytes, judge_refusal, judge_answer}
+use Rattle.logger.specs.Judge.{window_length, wrong_window, finding_bytes, judge_refusal, judge_answer}
 use Rattle.slotter.specs.Bursts.{training_of, training_refusal}
 use Rattle.slotter.specs.Uplink.{uplink, pair_refusal, uplink_reply, normal_uplink, control_uplink, uplink_number, uplink_bits, placed}
 use Rattle.slotter.proofs.UplinkAnswers.{uplink_number_lem, uplink_bits_lem}

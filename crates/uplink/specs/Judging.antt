@@ -5,7 +5,7 @@ use Rattle.dsp_types.specs.Answers.{answer_number}
 use Rattle.burst_finder.specs.declared.Finding.{Finding}
 use Rattle.burst_finder.specs.declared.SlotType.{SlotType}
 use Rattle.burst_finder.specs.declared.SlotType.TheVariants.{UlFull, UlSub}
-use Rattle.burst_finder.specs.Slots.{check_slot}
+use Rattle.burst_finder.specs.Slots.{kind_number, check_slot}
 use Rattle.logger.specs.Judge.{finding_bytes, judge_refusal, judge_answer}
 use Rattle.slotter.specs.Uplink.{normal_uplink, control_uplink, uplink_number}
 use Rattle.uplink.specs.declared.Judged.{Judged}
@@ -23,20 +23,20 @@ unfoldable pub told : Judged → Told
 told j = record { number = answer_number j.built; finding = j.finding; refusal = answer_number j.judged; answer = j.answer }
 
 -- the builder's number, and what the finder and the logger's call, with six zero bytes lent, answer of a window of that kind
-unfoldable pub judged_of : (number kind : ℕ) (type : SlotType) (window : List ℕ) → Told
-judged_of number kind type window =
+unfoldable pub judged_of : (number : ℕ) (type : SlotType) (window : List ℕ) → Told
+judged_of number type window =
     record {
       number = number;
       finding = check_slot type window;
-      refusal = judge_refusal kind window (replicate 6 0);
-      answer = judge_answer kind window (replicate 6 0);
+      refusal = judge_refusal (kind_number type) window (replicate 6 0);
+      answer = judge_answer (kind_number type) window (replicate 6 0);
     }
 
 unfoldable pub judged_normal : (train : ℕ) (blk1 blk2 : List ℕ) (offset : ℕ) → Told
-judged_normal train blk1 blk2 offset = judged_of (uplink_number (normal_uplink train blk1 blk2)) 1 UlFull (normal_window train blk1 blk2 offset)
+judged_normal train blk1 blk2 offset = judged_of (uplink_number (normal_uplink train blk1 blk2)) UlFull (normal_window train blk1 blk2 offset)
 
 unfoldable pub judged_control : (blk1 blk2 : List ℕ) (offset : ℕ) → Told
-judged_control blk1 blk2 offset = judged_of (uplink_number (control_uplink blk1 blk2)) 2 UlSub (control_window blk1 blk2 offset)
+judged_control blk1 blk2 offset = judged_of (uplink_number (control_uplink blk1 blk2)) UlSub (control_window blk1 blk2 offset)
 
 -- a burst that was built is reported by both, at every even offset from 0 to 48
 pub record NormalFound (train : ℕ) (blk1 blk2 : List ℕ) (offset : ℕ) (j : Told) : Type 0 where

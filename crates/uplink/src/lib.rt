@@ -43,17 +43,16 @@ fn place_built<const N: usize>(
 fn judge_placed<const N: usize, const W: usize>(
     burst: Result<[u8; N], Refusal>,
     offset: usize,
-    kind: u32,
     slot_type: SlotType,
 ) -> Judged
     requires { W ≤ 510 }
-    ensures { told result ≡ judged_of (uplink_number (uplink_reply burst.entry)) kind slot_type (placed W offset (uplink_bits (uplink_reply burst.entry))) }
+    ensures { told result ≡ judged_of (uplink_number (uplink_reply burst.entry)) slot_type (placed W offset (uplink_bits (uplink_reply burst.entry))) }
 {
     let mut window = [0; W];
     let built = place_built(burst, offset, &mut window);
     let finding = check_slot(slot_type, &window);
     let mut answer = [0; 6];
-    let judged = judge(kind, &window, &mut answer);
+    let judged = judge(slot_type.number(), &window, &mut answer);
     Judged {
         built,
         finding,
@@ -68,7 +67,7 @@ pub fn judge_normal(train: u32, blk1: &[u8], blk2: &[u8], offset: usize) -> Judg
     ensures found { answer_number result.built ≡ accepted → NormalFound train blk1.now blk2.now offset (told result) }
 {
     let burst = build_nub(train, blk1, blk2);
-    judge_placed::<462, 510>(burst, offset, 1, SlotType::UlFull)
+    judge_placed::<462, 510>(burst, offset, SlotType::UlFull)
 }
 
 // The same of a control uplink burst and half a window.
@@ -77,5 +76,5 @@ pub fn judge_control(blk1: &[u8], blk2: &[u8], offset: usize) -> Judged
     ensures found { answer_number result.built ≡ accepted → ControlFound blk1.now blk2.now offset (told result) }
 {
     let burst = build_cub(blk1, blk2);
-    judge_placed::<206, 254>(burst, offset, 2, SlotType::UlSub)
+    judge_placed::<206, 254>(burst, offset, SlotType::UlSub)
 }

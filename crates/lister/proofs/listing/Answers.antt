@@ -11,6 +11,5 @@ returns-in_default c =
 pub returns : goal.returns
 returns c =
     let x = c.in-Some in
-    let k = c.type_number.ensures ∙ c.of_letter-burst_type.ensures in
     c.print.ensures
-    ∙ ap cut (rw (c.answer.ensures, k, c.of_letter-burst_type.ensures) (prints c.args.input.now x.letter.now x.characters.now (sym x.ensures.cases.0 ∙ c.trimmed.ensures)))
+    ∙ ap cut (rw (c.answer.ensures, c.of_letter-burst_type.ensures) (prints c.args.input.now x.letter.now x.characters.now (sym x.ensures.cases.0 ∙ c.trimmed.ensures)))

@@ -12,6 +12,6 @@ unfolding told judged_control control_window
 returns c =
     let a = c.args in
     let judged : told c.judge_placed.result ≡ judged_control a.blk1.now a.blk2.now a.offset =
-    c.judge_placed.ensures ∙ ap (λ (r : UplinkReply). judged_of (uplink_number r) 2 UlSub (placed 254 a.offset (uplink_bits r))) c.build_cub-burst.ensures
+    c.judge_placed.ensures ∙ ap (λ (r : UplinkReply). judged_of (uplink_number r) UlSub (placed 254 a.offset (uplink_bits r))) c.build_cub-burst.ensures
     in
     record { answers = judged; found = control_found a.blk1.now a.blk2.now a.offset (told c.judge_placed.result) judged }

@@ -12,6 +12,6 @@ unfolding told judged_normal normal_window
 returns c =
     let a = c.args in
     let judged : told c.judge_placed.result ≡ judged_normal a.train a.blk1.now a.blk2.now a.offset =
-    c.judge_placed.ensures ∙ ap (λ (r : UplinkReply). judged_of (uplink_number r) 1 UlFull (placed 510 a.offset (uplink_bits r))) c.build_nub-burst.ensures
+    c.judge_placed.ensures ∙ ap (λ (r : UplinkReply). judged_of (uplink_number r) UlFull (placed 510 a.offset (uplink_bits r))) c.build_nub-burst.ensures
     in
     record { answers = judged; found = normal_found a.train a.blk1.now a.blk2.now a.offset (told c.judge_placed.result) judged }
