@@ -15,8 +15,7 @@ returns g c =
     rw (
       p.ensures.number ∙ told_uplink_number a.burst,
       c.check_slot-finding.ensures,
-      c.number.ensures,
-      j.refusal,
-      j.answer,
+      rw c.number.ensures at j.refusal,
+      rw c.number.ensures at j.answer,
       window_is a.burst g.row.W a.offset p.new.window (rw (length-replicate {A = ℕ} g.row.W 0) at p.ensures.window),
     )
