@@ -2,12 +2,13 @@
 use mathlib.Core.Path.{◌≡◌, refl, sym, ap, subst, ◌∙◌}
 use mathlib.Core.Bool.{Bool, true, false, not, ◌&&◌, cond}
 use mathlib.Core.List.{List, [], ◌∷◌, ◌++◌}
-use Prim.Native.Nat.{ℕ, zero, suc, ◌+◌, ◌-◌, ◌*◌, ◌^◌, ◌<◌, ◌≤◌, max}
+use Prim.Native.Nat.{ℕ, suc, ◌+◌, ◌-◌, ◌*◌, ◌^◌, ◌<◌, ◌≤◌, max}
 use native.Mathlib.Omega.{arith}
 use native.Mathlib.Nat.{lt_of_le_of_lt, mul-le-mul_right, pow-le-pow_left}
 use native.Mathlib.Numerals.{add-one}
 use lib.Dec.{T, ltb, ltb→lt, lt→ltb}
 use lib.ListN.{get_or, length, take}
+use Rattle.std.specs.List.{filter}
 use lib.Seq.{take-suc}
 use lib.Ieee.{Float, nan, inf, fin, binary32, is_nan, fits, to_bits}
 use lib.Ieee.Bits.{is_true, is_false}
@@ -16,23 +17,17 @@ use borrow.Author.Tests.{lt-ltb, le-ltb, ltb-true, ltb-false}
 use Rattle.magnitude.specs.Pattern.{size_of, pattern_units}
 use Rattle.magnitude.proofs.Values.{pattern_mono}
 use Rattle.magnitude.proofs.Parts.{units_size, size_lt}
-use Rattle.iq_format.specs.Level.{less_than_db, quieter, all_quieter, steps_above, loudness, peak_of, is_step}
+use Rattle.iq_format.specs.Level.{less_than_db, quieter, all_quieter, steps_above, loudness, peak_of}
+
+-- whether p is the first of these patterns that is not below −k dBFS
+unfoldable pub is_step : ℕ → ℕ → Bool
+is_step k p = (ltb 0 p && ltb p 0x7f80_0000) && (less_than_db k (pattern_units (p - 1)) && not (less_than_db k (pattern_units p)))
 
 -- ---- the table: one test, computed over all of it
 
 abbrev pub every : (ℕ → ℕ → Bool) → ℕ → List ℕ → Bool
 every test i [] = true
 every test i (p ∷ ps) = test i p && every test (suc i) ps
-
-every_at : (test : ℕ → ℕ → Bool) (i : ℕ) (ps : List ℕ) → T (every test i ps) → (k : ℕ) → k < length ps → T (test (i + k) (get_or ps k 0))
-every_at test i [] t k h = absurd (omega arith)
-every_at test i (p ∷ ps) t zero h = let e : i + 0 ≡ i = omega arith in rw e (and_l (test i p) (every test (suc i) ps) t)
-every_at test i (p ∷ ps) t (suc k) h =
-    let e : i + suc k ≡ suc i + k = omega arith in
-    rw e (every_at test (suc i) ps (and_r (test i p) (every test (suc i) ps) t) k (omega arith))
-
-pub in_table : (test : ℕ → ℕ → Bool) (ps : List ℕ) → T (every test 0 ps) → (k : ℕ) → k < length ps → T (test k (get_or ps k 0))
-in_table test ps t k h = let e : 0 + k ≡ k = omega arith in rw e at (every_at test 0 ps t k h)
 
 -- ---- a part and a step
 
@@ -114,6 +109,27 @@ peak_none = refl
 pub peak_more : (n : ℕ) (parts : List Float) → n < length parts → peak_of (take (n + 1) parts) ≡ max (peak_of (take n parts)) (loudness (get_or parts n nan))
 peak_more n parts h = rw (add-one n, take-suc parts n nan h, peak_append (take n parts) (get_or parts n nan))
 
-pub step_turn : (k : ℕ) (parts : List Float) (level : ℕ) (b : Bool) → all_quieter k parts ≡ b → level ≡ steps_above k parts → level + cond b 1 0 ≡ steps_above (k + 1) parts
-unfolding steps_above
-step_turn k parts level b q e = rw (add-one k, q, e)
+-- ---- the steps that all parts are below
+
+module _ (parts : List Float) (fine : (i : ℕ) → i < length parts → T (fits binary32 (get_or parts i nan))) where
+  abbrev below_step : ℕ → Bool
+  below_step p = ltb (peak_of parts) p
+
+  turn : (k p : ℕ) (ps : List ℕ) → all_quieter k parts ≡ below_step p → steps_above (suc k) parts + length (filter below_step ps) ≡ steps_above (suc k + length ps) parts
+      → steps_above k parts + length (filter below_step (p ∷ ps)) ≡ steps_above (k + suc (length ps)) parts
+  unfolding steps_above
+  turn k p ps q rest = go (below_step p) refl
+    where
+      go : (b : Bool) → below_step p ≡ b → steps_above k parts + length (cond b (p ∷ filter below_step ps) (filter below_step ps)) ≡ steps_above (k + suc (length ps)) parts
+      go true e = let m : suc k + length ps ≡ k + suc (length ps) = omega arith in omega (arith, rw (m, q ∙ e) at rest)
+      go false e = let m : suc k + length ps ≡ k + suc (length ps) = omega arith in omega (arith, rw (m, q ∙ e) at rest)
+
+  -- of the first k, and of those in the table from the k-th on
+  counted : (k : ℕ) (ps : List ℕ) → T (every is_step k ps) → steps_above k parts + length (filter below_step ps) ≡ steps_above (k + length ps) parts
+  counted k [] t = let e : k + 0 ≡ k = omega arith in rw e (omega arith)
+  counted k (p ∷ ps) t =
+      turn k p ps (parts_law k p (and_l (is_step k p) (every is_step (suc k) ps) t) parts fine) (counted (suc k) ps (and_r (is_step k p) (every is_step (suc k) ps) t))
+
+  pub steps_counted : (ps : List ℕ) → T (every is_step 0 ps) → length (filter below_step ps) ≡ steps_above (length ps) parts
+  unfolding steps_above
+  steps_counted ps t = let e : 0 + length ps ≡ length ps = omega arith in omega (arith, rw e at (counted 0 ps t))

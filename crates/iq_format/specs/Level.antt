@@ -1,9 +1,8 @@
 -- The level of parts as a radio's meter shows it, in decibels below full scale: −k dBFS is 10^(−k/20) of 1.0. Definitions only.
-use Rattle.std.specs.Prelude.{ℕ, zero, suc, ◌+◌, ◌-◌, ◌*◌, ◌%◌, ◌^◌, max, List, [], ◌∷◌, Bool, true, false, not, ◌&&◌, cond, ltb, Float}
+use Rattle.std.specs.Prelude.{ℕ, zero, suc, ◌+◌, ◌*◌, ◌%◌, ◌^◌, max, List, [], ◌∷◌, Bool, true, false, ◌&&◌, cond, ltb, Float}
 use Rattle.std.specs.Float.{nan, inf, fin, binary32}
 use Rattle.std.specs.Float.Ieee.{is_nan, to_bits}
 use Rattle.magnitude.specs.Magnitude.{units}
-use Rattle.magnitude.specs.Pattern.{pattern_units}
 
 -- whether u / 2^149 is below 10^(−k/20): the 20th powers, in whole numbers
 unfoldable pub less_than_db : ℕ → ℕ → Bool
@@ -39,7 +38,3 @@ loudness x = cond (is_nan x) 0 (to_bits binary32 x % 0x8000_0000)
 unfoldable pub peak_of : List Float → ℕ
 peak_of [] = 0
 peak_of (x ∷ parts) = max (loudness x) (peak_of parts)
-
--- whether p is the first of these patterns that is not below −k dBFS
-unfoldable pub is_step : ℕ → ℕ → Bool
-is_step k p = (ltb 0 p && ltb p 0x7f80_0000) && (less_than_db k (pattern_units (p - 1)) && not (less_than_db k (pattern_units p)))

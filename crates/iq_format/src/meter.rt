@@ -1,8 +1,6 @@
 // The level of a recording, as a radio's meter shows it.
-ghost use Rattle.std.specs.Prelude.{◌≡◌, ◌<◌, T};
-ghost use Rattle.iq_format.specs.Level.{level_of, loudness, peak_of, is_step};
-
-const STEPS: usize = 99;
+ghost use Rattle.std.specs.Prelude.{◌≡◌};
+ghost use Rattle.iq_format.specs.Level.{level_of, loudness, peak_of};
 
 // The first bit pattern that is not below 0, −1, −2, .., −98 dBFS.
 const STEP_PATTERNS: [u32; 99] = [
@@ -107,13 +105,6 @@ const STEP_PATTERNS: [u32; 99] = [
     0x3753_3670,
 ];
 
-fn step(k: usize) -> u32
-    requires { k < 99 }
-    ensures { T (is_step k result) }
-{
-    STEP_PATTERNS[k]
-}
-
 // Patterns without their sign are in the order of the sizes, and the compiler compares several whole numbers at once.
 #[tactic(auto, unfolding(crate::specs::Level::loudness))]
 fn loudness(x: f32) -> u32
@@ -132,10 +123,7 @@ fn peak(parts: &[f32]) -> u32
 {
     let mut peak: u32 = 0;
     for part in parts {
-        let x = loudness(*part);
-        if peak < x {
-            peak = x;
-        }
+        peak = peak.max(loudness(*part));
     }
     peak
 }
@@ -146,12 +134,5 @@ pub fn level(parts: &[f32]) -> u32
     ensures { result ≡ level_of parts.now }
 {
     let peak = peak(parts);
-    let mut level: u32 = 0;
-    // By index: what a step is depends on its place.
-    for k in 0..STEPS {
-        if peak < step(k) {
-            level += 1;
-        }
-    }
-    level
+    STEP_PATTERNS.iter().filter(|step| peak < **step).count() as u32
 }

@@ -93,9 +93,9 @@ impl Text {
     {
         let mut characters = [0u8; 2048];
         let count = bits.len().min(2048);
-        // By index: of what `iter_mut` in a zip lends, nothing is known after the loop.
-        for i in 0..count {
-            characters[i] = character_of(bits[i]);
+        // Written by index: of what `iter_mut` in a zip lends, nothing is known after the loop.
+        for (i, bit) in bits[..count].iter().enumerate() {
+            characters[i] = character_of(*bit);
         }
         self.append(&characters[..count])
     }
