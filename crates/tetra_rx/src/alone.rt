@@ -67,11 +67,11 @@ pub(crate) fn receive<H: Host, R: Read + Drop>(rt: &H, from: R, options: Options
     let mut im = [0.0f32; 2048];
     let mut abs = [0.0f32; 2048];
     let style = Style {
-        form: options.form(),
+        form: options.form,
         has_bits: options.has_bits,
         link: Link::Alone,
     };
-    let mut input = Input::new(from, options.format());
+    let mut input = Input::new(from, options.format);
     let mut downlink = Downlink {
         receiver: State::new(Mode::DlUnsynchronized),
         tally: Tally::new(rt, options),

@@ -124,12 +124,12 @@ pub(crate) fn receive<H: Host, R: Read + Drop>(rt: &H, from: R, up_from: R, opti
     let mut up_abs = [0.0f32; 2048];
     // Whose link is each line's own.
     let style = Style {
-        form: options.form(),
+        form: options.form,
         has_bits: options.has_bits,
         link: Link::Down,
     };
-    let mut down = Input::new(from, options.format());
-    let mut up = Input::new(up_from, options.format());
+    let mut down = Input::new(from, options.format);
+    let mut up = Input::new(up_from, options.format);
     let mut both = Both::new(Tally::new(rt, options));
     // As above; nothing says that the inputs end.
     for _ in 0..u64::MAX {
