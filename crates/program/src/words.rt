@@ -1,5 +1,5 @@
 // The words of the command line, read one behind the other.
-ghost use Rattle.std.specs.Prelude.{◌≡◌, ◌+◌, ◌≤◌, false, ◌||◌, length, IfSome, OnSome, IfNone};
+ghost use Rattle.std.specs.Prelude.{◌≡◌, ◌+◌, ◌-◌, ◌^◌, min, ◌<◌, ◌≤◌, false, ◌||◌, length, IfSome, MatchOption};
 ghost use Rattle.program.specs.Words.{same_word, is_option, kind_of_word, kind_of_word_at, named_at};
 ghost use Rattle.text.specs.Text.{ascii};
 
@@ -119,14 +119,17 @@ impl Words {
     // that the buffer has no room for is read as an empty one.
     pub fn value<'a, E: Env>(&mut self, rt: &E, buf: &'a mut [u8]) -> Option<Word<'a>>
         ensures len_bound { IfSome result (λ word. length word.text.now ≤ length buf.old) }
-        ensures place { IfSome result (λ word. word.at ≡ self.old.at) }
-        ensures at_value { OnSome result (self.new.at ≡ self.old.at + 1) }
-        ensures is_ended_value { self.new.is_ended ≡ self.old.is_ended }
-        ensures none { IfNone result (self.new ≡ self.old) }
+        ensures place { IfSome result (λ word. (word.at ≡ self.old.at) × (self.old.at < self.new.at)) }
+        ensures at_value { (self.new.at ≡ min (self.old.at + 1) (2 ^ 64 - 1)) × (self.new.is_ended ≡ self.old.is_ended) }
+        ensures forward { self.old.at ≤ self.new.at }
     {
         let at = self.at;
+        self.at = at.saturating_add(1);
         let text = arg(rt, at, buf)?;
-        self.at = at.checked_add(1)?;
+        // No word has the last place that can be counted, so that reading on ends.
+        if self.at == at {
+            return None;
+        }
         Some(Word { at, text })
     }
 
@@ -134,12 +137,11 @@ impl Words {
     #[tactic(auto, unfolding(text::specs::Text::ascii))]
     pub fn next<'a, E: Env>(&mut self, rt: &E, buf: &'a mut [u8]) -> Option<(Kind, Word<'a>)>
         ensures len_bound { IfSome result (λ told. length told.1.text.now ≤ length buf.old) }
-        ensures place { IfSome result (λ told. told.1.at ≡ self.old.at) }
+        ensures place { IfSome result (λ told. (told.1.at ≡ self.old.at) × (self.old.at < self.new.at)) }
         ensures kind_value { IfSome result (λ told. told.0 ≡ kind_of_word_at self.old.is_ended told.1.text.now) }
-        ensures at_value { OnSome result (self.new.at ≡ self.old.at + 1) }
-        ensures is_ended_value { IfSome result
+        ensures at_value { self.new.at ≡ min (self.old.at + 1) (2 ^ 64 - 1) }
+        ensures is_ended_value { MatchOption result (self.new.is_ended ≡ self.old.is_ended)
             (λ told. self.new.is_ended ≡ (self.old.is_ended || same_word told.1.text.now (ascii "--"))) }
-        ensures none { IfNone result (self.new ≡ self.old) }
     {
         let word = self.value(rt, buf)?;
         let kind = kind_at(self.is_ended, word.text);
