@@ -3,6 +3,8 @@ use Rattle.std.specs.Prelude.{ℕ, Bool, true, false, cond, ◌&&◌, List, [], 
 use Rattle.text.specs.Text.{ascii}
 use Rattle.program.specs.declared.words.Kind.{Kind}
 use Rattle.program.specs.declared.words.Kind.TheVariants.{Ends, Help, Version, Option, Name}
+use Rattle.program.specs.declared.words.Named.{Named}
+use Rattle.program.specs.declared.words.Named.TheVariants.{Input, Argument}
 
 -- two words are the same
 unfoldable pub same_word : List ℕ → List ℕ → Bool
@@ -28,3 +30,7 @@ kind_of_word word =
 -- behind `--` each word is a name
 unfoldable pub kind_of_word_at : Bool → List ℕ → Kind
 kind_of_word_at ended word = cond ended Name (kind_of_word word)
+
+-- the file that the word at a place names
+unfoldable pub named_at : ℕ → List ℕ → Named
+named_at at word = cond (same_word word (ascii "-")) Input (Argument at)

@@ -10,7 +10,7 @@ use std::fmt::InlineText;
 use std::{fmt, fs, io};
 use streams::Host;
 use text::Text;
-pub use words::{Kind, Words, count, is_word};
+pub use words::{Kind, Named, Word, Words, is_word};
 
 // What is wrong with words.
 #[derive(Clone, Copy, Debug, PartialEq, Eq)]
@@ -33,8 +33,7 @@ impl fmt::Display for Wrong {
 enum Asked {
     Help,
     Version,
-    // The file that an argument names, or standard input.
-    Read(Option<usize>),
+    Read(Named),
 }
 
 // The system's numbers of its errors: there is no such file, its name is too long, its name is no text.
@@ -89,23 +88,16 @@ fn path_at<'a, H: Host>(rt: &H, at: usize, buf: &'a mut [u8]) -> io::Result<&'a 
     Err(io::Error::from_raw_os_error(code))
 }
 
-// The file of that path, `-` for standard input.
-fn open_path<H: Host>(rt: &H, path: &str) -> io::Result<Source<H::File>> {
-    if path == "-" {
-        return Ok(Source::Input(rt.input()));
-    }
-    Ok(Source::File(fs::open(rt, path)?))
-}
-
-// Opens the file that an argument names, or tells why not. Where none does, it is standard input.
-pub fn open<H: Host>(rt: &H, program: &[u8], at: Option<usize>) -> Option<Source<H::File>> {
-    let Some(at) = at else {
-        return Some(Source::Input(rt.input()));
+// Opens what is named, or tells why not.
+pub fn open<H: Host>(rt: &H, program: &[u8], named: Named) -> Option<Source<H::File>> {
+    let at = match named {
+        Named::Input => return Some(Source::Input(rt.input())),
+        Named::Argument(at) => at,
     };
     let mut buf = [0u8; 4096];
     match path_at(rt, at, &mut buf) {
-        Ok(path) => match open_path(rt, path) {
-            Ok(source) => return Some(source),
+        Ok(path) => match fs::open(rt, path) {
+            Ok(file) => return Some(Source::File(file)),
             Err(error) => fail(rt, program, path.as_bytes(), error),
         },
         Err(error) => fail(rt, program, b"the file name", error),
@@ -113,35 +105,29 @@ pub fn open<H: Host>(rt: &H, program: &[u8], at: Option<usize>) -> Option<Source
     None
 }
 
-// The first word that asks for something decides; names are kept. Words are counted first, since one that is missing is read as an
-// empty one.
+// The first word that asks for something decides; names are kept.
 fn read_words<H: Host>(rt: &H) -> Result<Asked, Wrong> {
     let mut words = Words::new();
-    let mut name = None;
-    for at in 1..count(rt) {
-        let mut buf = [0u8; 4096];
-        let (kind, _) = words.next(rt, &mut buf);
+    let mut named = None;
+    let mut buf = [0u8; 4096];
+    while let Some((kind, word)) = words.next(rt, &mut buf) {
         match kind {
             Kind::Ends => {}
             Kind::Help => return Ok(Asked::Help),
             Kind::Version => return Ok(Asked::Version),
             Kind::Option => return Err(Wrong::UnknownOption),
-            Kind::Name => {
-                if name.is_some() {
-                    return Err(Wrong::TwoNames);
-                }
-                name = Some(at);
-            }
+            Kind::Name if named.is_some() => return Err(Wrong::TwoNames),
+            Kind::Name => named = Some(word.named()),
         }
     }
-    Ok(Asked::Read(name))
+    Ok(Asked::Read(named.unwrap_or(Named::Input)))
 }
 
 // Answers the command line of a program that reads standard input or one file, and has no options of its own: gives what
 // is to be read, or tells what was asked for or is wrong.
 pub fn input<H: Host>(rt: &H, program: &[u8], text: &[u8]) -> Option<Source<H::File>> {
     match read_words(rt) {
-        Ok(Asked::Read(at)) => return open(rt, program, at),
+        Ok(Asked::Read(named)) => return open(rt, program, named),
         Ok(Asked::Help) => help(rt, program, text),
         Ok(Asked::Version) => version(rt, program),
         Err(wrong) => refuse(rt, program, wrong),

@@ -1,6 +1,6 @@
 // The words of the command line, read one behind the other.
-ghost use Rattle.std.specs.Prelude.{◌≡◌, ◌+◌, ◌%◌, ◌^◌, ◌≤◌, false, ◌||◌, length};
-ghost use Rattle.program.specs.Words.{same_word, is_option, kind_of_word, kind_of_word_at};
+ghost use Rattle.std.specs.Prelude.{◌≡◌, ◌+◌, ◌-◌, ◌^◌, min, ◌<◌, ◌≤◌, false, ◌||◌, length, IfSome, MatchOption};
+ghost use Rattle.program.specs.Words.{same_word, is_option, kind_of_word, kind_of_word_at, named_at};
 ghost use Rattle.text.specs.Text.{ascii};
 
 use std::env::{Env, FillError};
@@ -14,6 +14,20 @@ pub enum Kind {
     // Any other word that starts with a minus. A minus alone is a name.
     Option,
     Name,
+}
+
+// The file that a word names: standard input, or the one whose path the argument at that place is.
+#[derive(Clone, Copy, Debug, PartialEq, Eq)]
+pub enum Named {
+    Input,
+    Argument(usize),
+}
+
+// A word, and its place among the arguments.
+#[derive(Clone, Copy)]
+pub struct Word<'a> {
+    pub at: usize,
+    pub text: &'a [u8],
 }
 
 // The argument that is read next, and whether `--` was read.
@@ -30,22 +44,16 @@ fn is_option(word: &[u8]) -> bool
     1 < word.len() && word.starts_with(b"-")
 }
 
-// How many arguments there are, with the program's own name.
-pub fn count<E: Env>(rt: &E) -> usize {
-    for at in 0..usize::MAX {
-        if let Err(FillError::NotPresent) = rt.arg(at, &mut [0u8; 1]) {
-            return at;
-        }
-    }
-    usize::MAX
-}
-
-// An argument, at the start of the buffer: an empty one where it is missing or there is no room for it.
-fn arg<'a, E: Env>(rt: &E, at: usize, buf: &'a mut [u8]) -> &'a [u8]
-    ensures { length result.now ≤ length buf.old }
+// An argument, where there is one, at the start of the buffer: an empty one where there is no room for it.
+fn arg<'a, E: Env>(rt: &E, at: usize, buf: &'a mut [u8]) -> Option<&'a [u8]>
+    ensures { IfSome result (λ text. length text.now ≤ length buf.old) }
 {
-    let len = rt.arg(at, buf).unwrap_or(0);
-    &buf[..len]
+    let len = match rt.arg(at, buf) {
+        Ok(len) => len,
+        Err(FillError::TooLong) => 0,
+        Err(FillError::NotPresent) => return None,
+    };
+    Some(&buf[..len])
 }
 
 // Whether a word is that one, as where a program looks for an option of its own.
@@ -82,6 +90,20 @@ fn kind_at(is_ended: bool, word: &[u8]) -> Kind
     if is_ended { Kind::Name } else { kind_of(word) }
 }
 
+impl Word<'_> {
+    // The file that the word names: a minus stands for standard input.
+    #[tactic(auto, unfolding(crate::specs::Words::named_at, text::specs::Text::ascii))]
+    pub fn named(self) -> Named
+        ensures { result ≡ named_at self.entry.at self.entry.text.now }
+    {
+        if is_word(self.text, b"-") {
+            Named::Input
+        } else {
+            Named::Argument(self.at)
+        }
+    }
+}
+
 impl Words {
     // The words behind the program's own name.
     pub fn new() -> Words
@@ -93,28 +115,37 @@ impl Words {
         }
     }
 
-    // The next word, as it stands at the start of the buffer, as where an option takes a value. One that is missing, or that
-    // the buffer has no room for, is read as an empty one.
-    pub fn value<'a, E: Env>(&mut self, rt: &E, buf: &'a mut [u8]) -> &'a [u8]
-        ensures len_bound { length result.now ≤ length buf.old }
-        ensures at_value { (self.new.at ≡ (self.old.at + 1) % 2 ^ 64) × (self.new.is_ended ≡ self.old.is_ended) }
+    // The next word, as it stands at the start of the buffer, as where an option takes a value; none behind the last. One
+    // that the buffer has no room for is read as an empty one.
+    pub fn value<'a, E: Env>(&mut self, rt: &E, buf: &'a mut [u8]) -> Option<Word<'a>>
+        ensures len_bound { IfSome result (λ word. length word.text.now ≤ length buf.old) }
+        ensures place { IfSome result (λ word. (word.at ≡ self.old.at) × (self.old.at < self.new.at)) }
+        ensures at_value { (self.new.at ≡ min (self.old.at + 1) (2 ^ 64 - 1)) × (self.new.is_ended ≡ self.old.is_ended) }
+        ensures forward { self.old.at ≤ self.new.at }
     {
-        let word = arg(rt, self.at, buf);
-        self.at = self.at.wrapping_add(1);
-        word
+        let at = self.at;
+        self.at = at.saturating_add(1);
+        let text = arg(rt, at, buf)?;
+        // No word has the last place that can be counted, so that reading on ends.
+        if self.at == at {
+            return None;
+        }
+        Some(Word { at, text })
     }
 
     // The same, and what it is.
     #[tactic(auto, unfolding(text::specs::Text::ascii))]
-    pub fn next<'a, E: Env>(&mut self, rt: &E, buf: &'a mut [u8]) -> (Kind, &'a [u8])
-        ensures len_bound { length result.1.now ≤ length buf.old }
-        ensures kind_value { result.0 ≡ kind_of_word_at self.old.is_ended result.1.now }
-        ensures at_value { self.new.at ≡ (self.old.at + 1) % 2 ^ 64 }
-        ensures is_ended_value { self.new.is_ended ≡ (self.old.is_ended || same_word result.1.now (ascii "--")) }
+    pub fn next<'a, E: Env>(&mut self, rt: &E, buf: &'a mut [u8]) -> Option<(Kind, Word<'a>)>
+        ensures len_bound { IfSome result (λ told. length told.1.text.now ≤ length buf.old) }
+        ensures place { IfSome result (λ told. (told.1.at ≡ self.old.at) × (self.old.at < self.new.at)) }
+        ensures kind_value { IfSome result (λ told. told.0 ≡ kind_of_word_at self.old.is_ended told.1.text.now) }
+        ensures at_value { self.new.at ≡ min (self.old.at + 1) (2 ^ 64 - 1) }
+        ensures is_ended_value { MatchOption result (self.new.is_ended ≡ self.old.is_ended)
+            (λ told. self.new.is_ended ≡ (self.old.is_ended || same_word told.1.text.now (ascii "--"))) }
     {
-        let word = self.value(rt, buf);
-        let kind = kind_at(self.is_ended, word);
-        self.is_ended |= is_word(word, b"--");
-        (kind, word)
+        let word = self.value(rt, buf)?;
+        let kind = kind_at(self.is_ended, word.text);
+        self.is_ended |= is_word(word.text, b"--");
+        Some((kind, word))
     }
 }

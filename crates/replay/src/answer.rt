@@ -1,4 +1,8 @@
 // The lines that answer calls.
+ghost use Rattle.std.specs.Prelude.{◌≡◌, ◌++◌};
+ghost use Rattle.text.specs.Text.{cut, ascii, decimal};
+ghost use Rattle.dsp_types.specs.Answers.{number_of};
+
 use dsp_types::{ComplexSample, Refusal};
 use text::Text;
 
@@ -15,15 +19,20 @@ pub(crate) fn with_number(text: Text, number: u64) -> Text {
     text.append(b" ").decimal(number)
 }
 
-pub(crate) fn refused(number: u32) -> Text {
-    with_number(Text::new().append(b"refused"), u64::from(number)).append(b"\n")
+pub(crate) fn refused(refusal: Refusal) -> Text
+    ensures { result ≡ cut (ascii "refused " ++ decimal 20 (number_of refusal) ++ ascii "\n") }
+{
+    Text::new()
+        .append(b"refused ")
+        .decimal(u64::from(refusal.number()))
+        .append(b"\n")
 }
 
 // The answer of a builder.
 pub(crate) fn burst<const N: usize>(answer: Result<[u8; N], Refusal>) -> Text {
     match answer {
         Ok(bits) => Text::new().append(b"burst ").bits(&bits).append(b"\n"),
-        Err(refusal) => refused(refusal.number()),
+        Err(refusal) => refused(refusal),
     }
 }
 

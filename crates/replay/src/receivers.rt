@@ -21,8 +21,7 @@ type Lent = [u8; 4096];
 fn low(line: &[u8], k: usize) -> Option<usize>
     ensures { IfSome result (λ n. n < 4) }
 {
-    let n = number(line, k)?;
-    if n < 4 { Some(n as usize) } else { None }
+    usize::try_from(number(line, k)?).ok().filter(|n| *n < 4)
 }
 
 // The first of the lent bytes, as many as field k says, where there are so many.
@@ -86,7 +85,7 @@ fn taken(
         }
         Err(refusal) => {
             if is_all(slot, 7) && is_all(half1, 7) && is_all(half2, 7) {
-                refused(refusal.number())
+                refused(refusal)
             } else {
                 error()
             }
@@ -98,7 +97,7 @@ fn taken(
 fn told(answer: Result<(), Refusal>, accepted: Text) -> Text {
     match answer {
         Ok(()) => accepted,
-        Err(refusal) => refused(refusal.number()),
+        Err(refusal) => refused(refusal),
     }
 }
 

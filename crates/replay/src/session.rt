@@ -47,7 +47,7 @@ impl Sender {
                 re: parts[0],
                 im: parts[1],
             }),
-            Some(refusal) => refused(refusal.number()),
+            Some(refusal) => refused(refusal),
         })
     }
 }

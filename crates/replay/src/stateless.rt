@@ -51,7 +51,7 @@ fn number_of(low: u8, high: u8) -> u64 {
 fn judged(kind: u32, bits: &[u8], len: usize) -> Text {
     let mut answer = [0u8; 4096];
     if let Err(refusal) = judge_with(kind, bits, &mut answer, len) {
-        return refused(refusal.number());
+        return refused(refusal);
     }
     let burst = with_number(Text::new().append(b"judged"), u64::from(answer[0]));
     let errors = with_number(burst, u64::from(answer[1]));

@@ -67,11 +67,11 @@ pub(crate) fn receive<H: Host, R: Read + Drop>(rt: &H, from: R, options: Options
     let mut im = [0.0f32; 2048];
     let mut abs = [0.0f32; 2048];
     let style = Style {
-        form: options.form(),
+        form: options.form,
         has_bits: options.has_bits,
         link: Link::Alone,
     };
-    let mut input = Input::new(from, options.format());
+    let mut input = Input::new(from, options.format);
     let mut downlink = Downlink {
         receiver: State::new(Mode::DlUnsynchronized),
         tally: Tally::new(rt, options),
@@ -83,7 +83,7 @@ pub(crate) fn receive<H: Host, R: Read + Drop>(rt: &H, from: R, options: Options
         }
         input.fill(rt, &mut block, b"tetra_rx: the input cannot be read");
         let n = downlink.tally.room(input.samples());
-        input.decode(&block, n, &mut parts);
+        input.decode(n, &mut parts);
         downlink.hear(
             rt,
             &mut re,
@@ -92,7 +92,7 @@ pub(crate) fn receive<H: Host, R: Read + Drop>(rt: &H, from: R, options: Options
             first_samples(&parts, n),
             style,
         );
-        input.without(&mut block, n);
+        input.without(n);
     }
     downlink.tally.finish(rt, input.rest(), 0);
 }

@@ -113,7 +113,6 @@ fn common<R: Read>(down: &Input<R>, up: &Input<R>) -> usize {
 // As alone::receive, with the uplink's file beside the downlink's.
 pub(crate) fn receive<H: Host, R: Read + Drop>(rt: &H, from: R, up_from: R, options: Options) {
     let mut block = [0u8; 65536];
-    let mut up_block = [0u8; 65536];
     let mut parts = [0.0f32; 16384];
     let mut up_parts = [0.0f32; 16384];
     let mut re = [0.0f32; 2048];
@@ -124,12 +123,12 @@ pub(crate) fn receive<H: Host, R: Read + Drop>(rt: &H, from: R, up_from: R, opti
     let mut up_abs = [0.0f32; 2048];
     // Whose link is each line's own.
     let style = Style {
-        form: options.form(),
+        form: options.form,
         has_bits: options.has_bits,
         link: Link::Down,
     };
-    let mut down = Input::new(from, options.format());
-    let mut up = Input::new(up_from, options.format());
+    let mut down = Input::new(from, options.format);
+    let mut up = Input::new(up_from, options.format);
     let mut both = Both::new(Tally::new(rt, options));
     // As above; nothing says that the inputs end.
     for _ in 0..u64::MAX {
@@ -138,13 +137,13 @@ pub(crate) fn receive<H: Host, R: Read + Drop>(rt: &H, from: R, up_from: R, opti
         }
         down.fill(rt, &mut block, b"tetra_rx: the input cannot be read");
         let was_over = up.is_over || down.is_over;
-        up.fill(rt, &mut up_block, b"tetra_rx: the uplink cannot be read");
+        up.fill(rt, &mut block, b"tetra_rx: the uplink cannot be read");
         if up.is_over && !was_over {
             both.tally.tell_uplink_end(rt);
         }
         let n = both.tally.room(common(&down, &up));
-        down.decode(&block, n, &mut parts);
-        up.decode(&up_block, n, &mut up_parts);
+        down.decode(n, &mut parts);
+        up.decode(n, &mut up_parts);
         both.hear(
             rt,
             &mut re,
@@ -157,8 +156,8 @@ pub(crate) fn receive<H: Host, R: Read + Drop>(rt: &H, from: R, up_from: R, opti
             first_samples(&up_parts, n),
             style,
         );
-        down.without(&mut block, n);
-        up.without(&mut up_block, n);
+        down.without(n);
+        up.without(n);
     }
     both.tally.finish(rt, down.rest(), up.rest());
 }

@@ -1,6 +1,7 @@
 // A file of samples, read block by block.
 ghost use Rattle.std.specs.Prelude.{◌<◌, ◌≤◌};
 
+use arrayvec::ArrayVec;
 use iq_format::Format;
 use std::io::Read;
 use streams::Host;
@@ -16,10 +17,9 @@ const MOST: usize = 8192;
 pub struct Input<R> {
     from: R,
     format: Format,
-    // So many bytes stand at the block's begin.
-    held: usize,
+    // What was read of samples that are not done with.
+    held: ArrayVec<u8, 65536>,
     pub is_over: bool,
-    ghost in_block: { held ≤ 65536 },
 }
 
 // The first n samples of all parts, since a part of an array behind a reference cannot be lent.
@@ -46,7 +46,7 @@ impl<R: Read> Input<R> {
         Input {
             from,
             format,
-            held: 0,
+            held: ArrayVec::new(),
             is_over: false,
         }
     }
@@ -59,42 +59,43 @@ impl<R: Read> Input<R> {
 
     // How many whole samples are held.
     pub(crate) fn samples(&self) -> usize {
-        self.held / self.sample_bytes()
+        self.held.len() / self.sample_bytes()
     }
 
     // How many bytes of half a sample are held.
     pub(crate) fn rest(&self) -> usize
         ensures { result ≤ 8 }
     {
-        self.held % self.sample_bytes()
+        self.held.len() % self.sample_bytes()
     }
 
-    // Reads on where no whole sample is held.
+    // Reads on, by way of the block, where no whole sample is held.
     pub(crate) fn fill<H: Host>(&mut self, rt: &H, block: &mut Block, what: &[u8]) {
         let bytes = self.sample_bytes();
-        if self.is_over || bytes <= self.held {
+        if self.is_over || bytes <= self.held.len() {
             return;
         }
-        let room = &mut block[self.held..bytes * MOST];
+        let room = &mut block[..bytes * MOST - self.held.len()];
         let got = streams::read_or_tell(rt, &mut self.from, room, what).unwrap_or(0);
-        self.held += got;
+        // No more was read than there is room for.
+        let _ = self.held.try_extend_from_slice(&room[..got]);
         self.is_over = got == 0;
     }
 
     // The first n samples are decoded, zeros behind those that are held.
-    pub(crate) fn decode(&self, block: &Block, n: usize, parts: &mut Parts) {
-        let count = iq_format::decode(self.format, &block[..self.held], parts);
+    pub(crate) fn decode(&self, n: usize, parts: &mut Parts) {
+        let count = iq_format::decode(self.format, self.held.as_slice(), parts);
         silence(parts, count - count % 2, n.wrapping_add(n));
     }
 
     // The first n samples are done with; where there were fewer, bytes of half a sample are left.
-    pub(crate) fn without(&mut self, block: &mut Block, n: usize) {
-        let bytes = n.min(MOST) * self.sample_bytes();
-        if bytes < self.held {
-            block.copy_within(bytes..self.held, 0);
-            self.held -= bytes;
-        } else {
-            self.held = self.rest();
-        }
+    pub(crate) fn without(&mut self, n: usize) {
+        let bytes = self.sample_bytes();
+        let held = self.held.as_mut_slice();
+        let whole = held.len() - held.len() % bytes;
+        let done = whole.min(n.min(MOST) * bytes);
+        let left = held.len() - done;
+        held.copy_within(done.., 0);
+        self.held.truncate(left);
     }
 }

@@ -48,9 +48,11 @@ fn receive<H: Host>(rt: &H, options: Options) {
     let Some(source) = program::open(rt, b"tetra_rx", options.downlink) else {
         return;
     };
-    if options.uplink.is_none() {
+    let Some(uplink) = options.uplink else {
         alone::receive(rt, source, options);
-    } else if let Some(up_source) = program::open(rt, b"tetra_rx", options.uplink) {
+        return;
+    };
+    if let Some(up_source) = program::open(rt, b"tetra_rx", uplink) {
         both::receive(rt, source, up_source, options);
     }
 }

@@ -1,6 +1,8 @@
 // What the user asks for.
+ghost use Rattle.std.specs.Prelude.{◌≤◌};
+
 use iq_format::Format;
-use program::{Kind, Words, is_word};
+use program::{Kind, Named, Word, Words};
 use slot_text::Form;
 use std::env::Env;
 use std::fmt;
@@ -30,21 +32,10 @@ pub(crate) struct Options {
     pub is_quiet: bool,
     pub is_progress: bool,
     pub has_bits: bool,
-    form: Form,
-    format: Format,
-    // The arguments that name the files of the downlink, standard input where there is none, and of the uplink.
-    pub downlink: Option<usize>,
-    pub uplink: Option<usize>,
-}
-
-impl Options {
-    pub(crate) fn format(self) -> Format {
-        self.format
-    }
-
-    pub(crate) fn form(self) -> Form {
-        self.form
-    }
+    pub form: Form,
+    pub format: Format,
+    pub downlink: Named,
+    pub uplink: Option<Named>,
 }
 
 #[derive(Clone, Copy)]
@@ -54,24 +45,15 @@ pub(crate) enum Asked {
     Receive(Options),
 }
 
-// An option whose value is the next word.
-#[derive(Clone, Copy)]
-enum Valued {
-    Format,
-    Uplink,
-}
-
 // What the words up to the next one ask for.
 #[derive(Clone, Copy)]
 struct Reader {
     // Help or the version, where they are asked for.
     told: Option<Asked>,
     wrong: Option<Wrong>,
-    valued: Option<Valued>,
+    // The downlink's file, where a word names it.
+    downlink: Option<Named>,
     options: Options,
-    // Whether the links are standard input.
-    down_is_input: bool,
-    up_is_input: bool,
 }
 
 impl Reader {
@@ -79,18 +61,16 @@ impl Reader {
         Reader {
             told: None,
             wrong: None,
-            valued: None,
+            downlink: None,
             options: Options {
                 is_quiet: false,
                 is_progress: false,
                 has_bits: true,
                 form: Form::Plain,
                 format: Format::Cf32,
-                downlink: None,
+                downlink: Named::Input,
                 uplink: None,
             },
-            down_is_input: true,
-            up_is_input: false,
         }
     }
 
@@ -99,64 +79,52 @@ impl Reader {
         self.wrong = self.wrong.or(Some(wrong));
     }
 
-    fn read_option(&mut self, word: &[u8]) {
-        match word {
+    fn read_format(&mut self, value: Option<Word>) {
+        match value.map(|word| word.text) {
+            Some(b"cf32") => self.options.format = Format::Cf32,
+            Some(b"cs16") => self.options.format = Format::Cs16,
+            Some(b"cu8") => self.options.format = Format::Cu8,
+            Some(_) => self.refuse(Wrong::UnknownFormat),
+            None => self.refuse(Wrong::NoValue),
+        }
+    }
+
+    fn read_uplink(&mut self, value: Option<Word>) {
+        match value {
+            Some(word) => self.options.uplink = Some(word.named()),
+            None => self.refuse(Wrong::NoValue),
+        }
+    }
+
+    // An option, whose value is the next word where it takes one.
+    fn read_option<E: Env>(&mut self, rt: &E, option: &[u8], words: &mut Words)
+        ensures { words.old.at ≤ words.new.at }
+    {
+        let mut buf = [0u8; 4096];
+        match option {
             b"--quiet" => self.options.is_quiet = true,
             b"--progress" => self.options.is_progress = true,
             b"--no-bits" => self.options.has_bits = false,
             b"--json" => self.options.form = Form::Json,
-            b"--format" => self.valued = Some(Valued::Format),
-            b"--uplink" => self.valued = Some(Valued::Uplink),
+            b"--format" => self.read_format(words.value(rt, &mut buf)),
+            b"--uplink" => self.read_uplink(words.value(rt, &mut buf)),
             _ => self.refuse(Wrong::Word(program::Wrong::UnknownOption)),
         }
     }
 
-    // The word, the argument at that place, names the downlink's file.
-    fn read_name(&mut self, word: &[u8], at: usize) {
-        if self.options.downlink.is_some() {
+    // A word that names the downlink's file.
+    fn read_name(&mut self, word: Word) {
+        if self.downlink.is_some() {
             self.refuse(Wrong::Word(program::Wrong::TwoNames));
         } else {
-            self.options.downlink = Some(at);
-            self.down_is_input = is_word(word, b"-");
-        }
-    }
-
-    fn read_word(&mut self, kind: Kind, word: &[u8], at: usize) {
-        match kind {
-            Kind::Ends => {}
-            Kind::Help => self.told = Some(Asked::Help),
-            Kind::Version => self.told = self.told.or(Some(Asked::Version)),
-            Kind::Option => self.read_option(word),
-            Kind::Name => self.read_name(word, at),
-        }
-    }
-
-    fn read_format(&mut self, word: &[u8]) {
-        match word {
-            b"cf32" => self.options.format = Format::Cf32,
-            b"cs16" => self.options.format = Format::Cs16,
-            b"cu8" => self.options.format = Format::Cu8,
-            _ => self.refuse(Wrong::UnknownFormat),
-        }
-    }
-
-    // The word, the argument at that place, is the value of the option before it.
-    fn read_value(&mut self, valued: Valued, word: &[u8], at: usize) {
-        match valued {
-            Valued::Format => self.read_format(word),
-            Valued::Uplink => {
-                self.options.uplink = Some(at);
-                self.up_is_input = is_word(word, b"-");
-            }
+            self.downlink = Some(word.named());
         }
     }
 
     // Help and the version go before what is wrong.
     fn finish(mut self) -> Result<Asked, Wrong> {
-        if self.valued.is_some() {
-            self.refuse(Wrong::NoValue);
-        }
-        if self.down_is_input && self.up_is_input {
+        self.options.downlink = self.downlink.unwrap_or(Named::Input);
+        if self.options.downlink == Named::Input && self.options.uplink == Some(Named::Input) {
             self.refuse(Wrong::OneInput);
         }
         match (self.told, self.wrong) {
@@ -170,14 +138,14 @@ impl Reader {
 pub(crate) fn read<E: Env>(rt: &E) -> Result<Asked, Wrong> {
     let mut reader = Reader::new();
     let mut words = Words::new();
-    for at in 1..program::count(rt) {
-        let mut buf = [0u8; 4096];
-        match reader.valued.take() {
-            Some(valued) => reader.read_value(valued, words.value(rt, &mut buf), at),
-            None => {
-                let (kind, word) = words.next(rt, &mut buf);
-                reader.read_word(kind, word, at);
-            }
+    let mut buf = [0u8; 4096];
+    while let Some((kind, word)) = words.next(rt, &mut buf) {
+        match kind {
+            Kind::Ends => {}
+            Kind::Help => reader.told = Some(Asked::Help),
+            Kind::Version => reader.told = reader.told.or(Some(Asked::Version)),
+            Kind::Option => reader.read_option(rt, word.text, &mut words),
+            Kind::Name => reader.read_name(word),
         }
     }
     reader.finish()

@@ -1,0 +1,6 @@
+-- Each turn reads an argument further on, and there are fewer than 2 ^ 64.
+use Rattle.std.proofs.Common.{◌-◌, ◌^◌}
+use Rattle.program.proofs.read_words.Given as goal
+
+abbrev pub decreases-loop-kind : goal.decreases-loop-kind
+decreases-loop-kind g l = 2 ^ 64 - l.words.at
