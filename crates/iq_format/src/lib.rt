@@ -3,9 +3,8 @@
 
 mod meter;
 
-ghost use Rattle.std.specs.Prelude.{◌≡◌, [], ◌∷◌, ◌++◌, ◌*◌, ◌/◌, ◌≤◌, min, length, take, drop, get_or, ℕ, ◌<◌};
-ghost use Rattle.std.specs.Float.{nan, binary32};
-ghost use Rattle.std.specs.Float.Ieee.{of_bits, to_bits};
+ghost use Rattle.std.specs.Prelude.{◌≡◌, [], ◌∷◌, ◌++◌, ◌*◌, ◌/◌, min, length, take, drop, get_or, ℕ, ◌<◌};
+ghost use Rattle.std.specs.Float.{nan};
 ghost use Rattle.iq_format.specs.Parts.{word_of, width, part_of, parts_in, part_bytes};
 
 pub use meter::level;

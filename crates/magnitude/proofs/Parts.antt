@@ -7,7 +7,7 @@ use native.Mathlib.Omega.{arith}
 use mathlib.Core.Bool.{Bool, true, false, not, ◌&&◌, ◌||◌, cond, true≢false}
 use lib.Dec.{T, leb}
 use borrow.Author.Tests.{le-ltb}
-use lib.Ieee.{Float, nan, inf, fin, binary32, binary64, lt, le, is_nan, nan_bits, fits, of_bits, to_bits}
+use lib.Ieee.{Float, nan, inf, fin, binary32, binary64, le, is_nan, nan_bits, fits, of_bits, to_bits}
 use lib.Ieee.Bits.{of_bits-to_bits, nan_bits_above, is_false}
 use lib.Ieee.Scale.{finite}
 use Rattle.std.specs.Float.{float_is_finite, IsFloatMin}

@@ -1,10 +1,9 @@
 // The stand-in for `abs()` (01, "The past"): the magnitude of a complex sample, cut to an f32.
 #![tactic(auto)]
 
-ghost use Rattle.std.specs.Prelude.{◌≡◌, false, not, ◌⊎◌, T, length, get_or, ℕ, ◌+◌, ◌*◌, ◌/◌, ◌^◌, ◌<◌, ◌≤◌, max, IfSome};
-ghost use Rattle.std.specs.Float.{nan, binary32, binary64};
-ghost use Rattle.std.specs.Float.Ieee.{is_nan, lt, of_bits, to_bits};
-ghost use Rattle.dsp_types.specs.Samples.{zero_f};
+ghost use Rattle.std.specs.Prelude.{◌≡◌, not, T, ◌+◌, ◌*◌, ◌/◌, ◌^◌, ◌<◌, ◌≤◌, max, IfSome};
+ghost use Rattle.std.specs.Float.{binary64};
+ghost use Rattle.std.specs.Float.Ieee.{is_nan, to_bits};
 ghost use Rattle.magnitude.specs.Magnitude.{magnitude_of, magnitudes_in, largest, square};
 ghost use Rattle.magnitude.specs.Pattern.{size_of, exponent_of, significand_of, pattern_units, packed_of};
 
