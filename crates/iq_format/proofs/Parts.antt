@@ -1,61 +1,23 @@
--- Patterns of NaN, words of bytes, the parts that are read, and one turn of the loop that writes. Assumes nothing.
-use mathlib.Core.Path.{◌≡◌, refl, sym, ap, subst, ◌∙◌}
-use mathlib.Core.Bool.{true}
-use lib.Dec.{T}
-use lib.IntN.{ℤ, negsuc, ◌-ℤ◌}
+-- Words of bytes, the parts that are read, and one turn of the loop that writes. Assumes nothing.
+use mathlib.Core.Path.{◌≡◌, refl, sym, ap, ◌∙◌}
 use mir.Syntax.{w16, w32}
-use Rattle.std.specs.Int.{from_le_bytes}
+use Rattle.std.proofs.lemmas.Int.{ints}
+use Rattle.std.specs.Int.{from_le_bytes, to_le_bytes}
 use Rattle.std.specs.Simd.{first_chunks}
-use mir.Val.{SFits, to_z, of_z}
-use mir.ValLaws.{to_z-of_z, to_z_pos}
+use mir.Val.{to_z}
 use mathlib.Core.List.{List, [], ◌∷◌, ◌++◌}
-use Prim.Native.Nat.{ℕ, zero, suc, ◌+◌, ◌-◌, ◌*◌, ◌/◌, ◌%◌, ◌<◌, ◌≤◌}
+use Prim.Native.Nat.{ℕ, zero, suc, ◌+◌, ◌*◌, ◌/◌, ◌%◌, ◌<◌, ◌≤◌}
 use native.Mathlib.Omega.{arith}
 use native.Mathlib.Nat.{mul-suc}
 use native.Mathlib.Numerals.{add-one}
-use lib.ListN.{get_or, length, set, take, drop, length-append, take-append-drop}
-use lib.Seq.{take-suc, drop-cons, drop-drop, take_at, drop_at, sets-eq, length-take-le}
-use lib.Ieee.{Float, nan, inf, fin, binary32, is_nan, of_bits, to_bits}
-use lib.Ieee.Bits.{nan_bits_is, nan_bits_above}
-use borrow.Author.Tests.{lt-ltb, le-ltb}
-use Rattle.dsp_types.proofs.Signs.{minus}
+use lib.ListN.{get_or, length, take, drop, take-append-drop}
+use lib.Seq.{take-suc, drop-cons, drop-drop}
+use lib.Ieee.{Float, nan, binary32, to_bits}
 use Rattle.iq_format.specs.declared.Format.{Format}
 use Rattle.iq_format.specs.declared.Format.TheVariants.{Cu8}
 use Rattle.iq_format.specs.Parts.{word_of, width, signed16, part_of, first_parts, parts_in, word_bytes, part_bytes}
 
--- ---- NaN
-
-only_nan : (x : Float) → is_nan x ≡ true → nan ≡ x
-unfolding is_nan
-only_nan nan e = refl
-only_nan (inf s) e = absurd (subst T (sym e) tt)
-only_nan (fin s m e') e = absurd (subst T (sym e) tt)
-
-pub nan_pattern : (x : Float) → is_nan x ≡ true → 0x7fc0_0000 ≡ to_bits binary32 x
-unfolding to_bits
-nan_pattern x e = ap (to_bits binary32) (only_nan x e)
-
-pub nan_float : (p : ℕ) → 0x7f80_0000 < p % 0x8000_0000 → nan ≡ of_bits binary32 p
-nan_float p h = only_nan (of_bits binary32 p) (sym (nan_bits_is binary32 p) ∙ nan_bits_above binary32 p ∙ lt-ltb 0x7f80_0000 (p % 0x8000_0000) h)
-
 -- ---- parts read
-
--- the sign bit is clear
-pub signed_above : (w : ℕ) → w < 0x8000 → to_z w16 w ≡ signed16 w
-unfolding signed16
-signed_above w h = to_z_pos w16 w h ∙ rw (lt-ltb w 0x8000 h)
-
--- the sign bit is set: the other bits are turned round
-module _ (w : ℕ) (l : 0x8000 ≤ w) (h : w < 0x1_0000) where
-  turned : negsuc 0 -ℤ to_z w16 (0xffff - w) ≡ negsuc (0xffff - w)
-  turned = ap (λ (z : ℤ). negsuc 0 -ℤ z) (to_z_pos w16 (0xffff - w) (omega arith)) ∙ minus (0xffff - w)
-
-  pub signed_fits : SFits w16 (negsuc 0 -ℤ to_z w16 (0xffff - w))
-  signed_fits = rw turned (record { sfits = omega arith })
-
-  pub signed_below : to_z w16 (of_z w16 (negsuc 0 -ℤ to_z w16 (0xffff - w))) ≡ signed16 w
-  unfolding signed16
-  signed_below = to_z-of_z w16 _ signed_fits ∙ turned ∙ rw (le-ltb w 0x8000 l, lt-ltb w 0x1_0000 h) (ap negsuc (omega arith))
 
 -- the word of part n
 abbrev pub part_word : Format → List ℕ → ℕ → ℕ
@@ -103,46 +65,24 @@ module _ (format : Format) (bytes : List ℕ) (parts₀ parts : List Float) wher
 
 -- ---- parts written
 
-module _ (n a b c d : ℕ) (bytes : List ℕ) (h : 4 * n + 3 < length bytes) where
-  abbrev four : List ℕ
-  four = set (set (set (set bytes (4 * n) a) (4 * n + 1) b) (4 * n + 2) c) (4 * n + 3) d
-
-  stored : four ≡ (take (4 * n) bytes ++ (a ∷ b ∷ c ∷ d ∷ [])) ++ drop (4 * n + 4) bytes
-  stored =
-      let j : 4 * n + 1 ≡ suc (4 * n) = omega arith in
-      let k : 4 * n + 2 ≡ suc (suc (4 * n)) = omega arith in
-      let l : 4 * n + 3 ≡ suc (suc (suc (4 * n))) = omega arith in
-      rw (j, k, l) (sets-eq (a ∷ b ∷ c ∷ d ∷ []) bytes (4 * n) (omega arith))
-
-  front : length (take (4 * n) bytes ++ (a ∷ b ∷ c ∷ d ∷ [])) ≡ 4 * (n + 1)
-  front = length-append (take (4 * n) bytes) (a ∷ b ∷ c ∷ d ∷ []) ∙ omega (arith, length-take-le (4 * n) bytes (omega arith))
-
-  four_taken : take (4 * (n + 1)) four ≡ take (4 * n) bytes ++ (a ∷ b ∷ c ∷ d ∷ [])
-  four_taken = rw stored (take_at (take (4 * n) bytes ++ (a ∷ b ∷ c ∷ d ∷ [])) (drop (4 * n + 4) bytes) (4 * (n + 1)) front)
-
-  four_left : drop (4 * (n + 1)) four ≡ drop (4 * n + 4) bytes
-  four_left = rw stored (drop_at (take (4 * n) bytes ++ (a ∷ b ∷ c ∷ d ∷ [])) (drop (4 * n + 4) bytes) (4 * (n + 1)) front)
-
 bytes_append : (xs : List Float) (x : Float) → part_bytes (xs ++ (x ∷ [])) ≡ part_bytes xs ++ word_bytes (to_bits binary32 x)
 unfolding part_bytes word_bytes
 bytes_append [] x = refl
 bytes_append (y ∷ xs) x = ap (λ (l : List ℕ). word_bytes (to_bits binary32 y) ++ l) (bytes_append xs x)
 
+low_first : (w : ℕ) → w < 0x1_0000_0000 → to_le_bytes w32 w ≡ word_bytes w
+unfolding word_bytes
+low_first w h = let e : w / 0x100_0000 % 0x100 ≡ w / 0x100_0000 = omega arith in rw e
+
 -- a word more
-module _ (n w : ℕ) (parts : List Float) (bytes bytes₀ : List ℕ) (h : 4 * n + 3 < length bytes) where
-  abbrev stored_word : List ℕ
-  stored_word = set (set (set (set bytes (4 * n) (w % 0x100)) (4 * n + 1) (w / 0x100 % 0x100)) (4 * n + 2) (w / 0x1_0000 % 0x100)) (4 * n + 3) (w / 0x100_0000)
+pub word_turn : (n w : ℕ) (parts : List Float) → n < length parts → w < 0x1_0000_0000 → w ≡ to_bits binary32 (get_or parts n nan)
+    → part_bytes (take n parts) ++ to_le_bytes w32 w ≡ part_bytes (take (n + 1) parts)
+word_turn n w parts l h e = rw (low_first w h, e, add-one n, take-suc parts n nan l) (sym (bytes_append (take n parts) (get_or parts n nan)))
 
-  pub word_turn : n < length parts → w ≡ to_bits binary32 (get_or parts n nan) → take (4 * n) bytes ≡ part_bytes (take n parts) → take (4 * (n + 1)) stored_word ≡ part_bytes (take (n + 1) parts)
-  unfolding word_bytes
-  word_turn l e inv =
-      four_taken n _ _ _ _ bytes h ∙ ap (λ (t : List ℕ). t ++ word_bytes w) inv
-      ∙ rw (e) (sym (bytes_append (take n parts) (get_or parts n nan)) ∙ ap part_bytes (sym (take-suc parts n nan l)) ∙ ap (λ (m : ℕ). part_bytes (take m parts)) (sym (add-one n)))
-
-  pub left_turn : drop (4 * n) bytes ≡ drop (4 * n) bytes₀ → drop (4 * (n + 1)) stored_word ≡ drop (4 * (n + 1)) bytes₀
-  left_turn inv =
-      let m : 4 * (n + 1) ≡ 4 * n + 4 = omega arith in
-      four_left n _ _ _ _ bytes h ∙ sym (drop-drop 4 (4 * n) bytes) ∙ ap (drop 4) inv ∙ drop-drop 4 (4 * n) bytes₀ ∙ ap (λ (k : ℕ). drop k bytes₀) (sym m)
+pub left_turn : (n : ℕ) (bytes bytes₀ : List ℕ) → drop (4 * n) bytes ≡ drop (4 * n) bytes₀ → drop (4 * (n + 1)) bytes ≡ drop (4 * (n + 1)) bytes₀
+left_turn n bytes bytes₀ inv =
+    let m : 4 * (n + 1) ≡ 4 * n + 4 = omega arith in
+    rw (m, ← drop-drop 4 (4 * n) bytes, inv) (drop-drop 4 (4 * n) bytes₀)
 
 pub word_32 : (raw : List ℕ) (n : ℕ) → length raw ≡ 4 → n ≡ from_le_bytes w32 raw → n ≡ word_of raw
 unfolding word_of
@@ -169,3 +109,13 @@ word_16 [] n h e = absurd (omega arith)
 word_16 (a ∷ []) n h e = absurd (omega arith)
 word_16 (a ∷ b ∷ []) n h e = omega arith
 word_16 (a ∷ b ∷ x ∷ l) n h e = absurd (omega arith)
+
+signed_is : (w : ℕ) → w < 0x1_0000 → to_z w16 w ≡ signed16 w
+unfolding signed16
+signed_is w h = grind (arith, ints)
+
+pub signed_word : (raw : List ℕ) → length raw ≡ 2 → ((i : ℕ) → get_or raw i 0 < 256) → to_z w16 (from_le_bytes w16 raw) ≡ signed16 (word_of raw)
+signed_word [] h f = absurd (omega arith)
+signed_word (a ∷ []) h f = absurd (omega arith)
+signed_word (a ∷ b ∷ []) h f = rw (← word_16 (a ∷ b ∷ []) (from_le_bytes w16 (a ∷ b ∷ [])) refl refl) (signed_is _ (omega (arith, f 0, f 1)))
+signed_word (a ∷ b ∷ x ∷ l) h f = absurd (omega arith)

@@ -3,12 +3,13 @@
 
 mod meter;
 
-ghost use Rattle.std.specs.Prelude.{◌≡◌, [], ◌∷◌, ◌++◌, ◌*◌, ◌/◌, ◌≤◌, min, length, take, drop, get_or, ℕ, ◌<◌};
-ghost use Rattle.std.specs.Float.{nan, binary32};
-ghost use Rattle.std.specs.Float.Ieee.{of_bits, to_bits};
-ghost use Rattle.iq_format.specs.Parts.{word_of, width, signed16, part_of, parts_in, part_bytes};
+ghost use Rattle.std.specs.Prelude.{◌≡◌, [], ◌∷◌, ◌++◌, ◌*◌, ◌/◌, min, length, take, drop, get_or, ℕ, ◌<◌};
+ghost use Rattle.std.specs.Float.{nan};
+ghost use Rattle.iq_format.specs.Parts.{word_of, width, part_of, parts_in, part_bytes};
 
 pub use meter::level;
+// The f32 of a bit pattern, and the pattern of an f32. NaN's patterns all give the same NaN, and one of them stands for all.
+pub use std::num::{f32_from_bits_with_nan as float, f32_to_bits_with_nan as pattern};
 
 // What a file of samples holds: f32 parts as GNU Radio and csdr write them (`.cf32`), signed 16-bit ones as SoapySDR
 // does (`.cs16`), or bytes as rtl_sdr does (`.cu8`).
@@ -30,29 +31,6 @@ pub fn part_bytes(format: Format) -> usize
     }
 }
 
-// The f32 of a bit pattern. NaN's patterns all give the same NaN.
-pub fn float(pattern: u32) -> f32
-    ensures { result ≡ of_bits binary32 pattern }
-{
-    if 0x7f80_0000 < pattern % 0x8000_0000 {
-        f32::NAN
-    } else {
-        f32::from_bits(pattern)
-    }
-}
-
-// The bit pattern of an f32. NaN has many: one of them stands for all.
-#[tactic(auto, using(crate::proofs::Parts::nan_pattern))]
-pub fn pattern(x: f32) -> u32
-    ensures { result ≡ to_bits binary32 x }
-{
-    if x.is_nan() {
-        0x7fc0_0000
-    } else {
-        f32::to_bits(x)
-    }
-}
-
 // Bytes come lowest first.
 #[tactic(auto, using(crate::proofs::Parts::word_32), unfolding(crate::specs::Parts::part_of))]
 fn cf32_part(raw: [u8; 4]) -> f32
@@ -61,21 +39,10 @@ fn cf32_part(raw: [u8; 4]) -> f32
     float(u32::from_le_bytes(raw))
 }
 
-// A word in two's complement.
-fn signed(word: u16) -> i16
-    ensures { result ≡ signed16 word }
-{
-    if word < 0x8000 {
-        word as i16
-    } else {
-        -1 - (0xffff - word) as i16
-    }
-}
-
 fn cs16_part(raw: [u8; 2]) -> f32
     ensures { result ≡ part_of Format.Cs16 (word_of raw) }
 {
-    signed(u16::from_le_bytes(raw)) as f32 / 32768.0
+    i16::from_le_bytes(raw) as f32 / 32768.0
 }
 
 fn cu8_part(byte: u8) -> f32
@@ -121,11 +88,7 @@ pub fn encode(parts: &[f32], bytes: &mut [u8]) -> usize
     let count = parts.len().min(bytes.len() / 4);
     // By index, as in `read`.
     for n in 0..count {
-        let w = pattern(parts[n]);
-        bytes[4 * n] = (w % 0x100) as u8;
-        bytes[4 * n + 1] = (w / 0x100 % 0x100) as u8;
-        bytes[4 * n + 2] = (w / 0x1_0000 % 0x100) as u8;
-        bytes[4 * n + 3] = (w / 0x100_0000) as u8;
+        bytes[4 * n..4 * n + 4].copy_from_slice(&pattern(parts[n]).to_le_bytes());
     }
     count
 }

@@ -105,7 +105,7 @@ const STEP_PATTERNS: [u32; 99] = [
     0x3753_3670,
 ];
 
-// Patterns without their sign are in the order of the sizes, and the compiler compares several whole numbers at once.
+// Patterns without their sign are in the order of the sizes.
 #[tactic(auto, unfolding(crate::specs::Level::loudness))]
 fn loudness(x: f32) -> u32
     ensures { result ≡ loudness x }
@@ -113,7 +113,7 @@ fn loudness(x: f32) -> u32
     if x.is_nan() {
         0
     } else {
-        f32::to_bits(x) % 0x8000_0000
+        x.to_bits() % 0x8000_0000
     }
 }
 

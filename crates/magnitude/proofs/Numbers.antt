@@ -1,5 +1,5 @@
 -- Products and squares of natural numbers. Assumes nothing.
-use Prim.Native.Nat.{ℕ, ◌+◌, ◌*◌, ◌^◌, ◌≤◌, ◌<◌, zero-le}
+use Prim.Native.Nat.{ℕ, ◌+◌, ◌*◌, ◌^◌, ◌≤◌, ◌<◌}
 use native.Mathlib.Nat.{le_of_lt, lt_of_le_of_lt, lt_of_not-le, lt_of_lt_of_le, not-le_of_lt, mul-le-mul, mul-le-mul_left, mul-lt-mul_of_pos_right}
 use native.Mathlib.Omega.{arith}
 use lib.Dec.{lit≤}
@@ -20,7 +20,3 @@ small_square a h = lt_of_lt_of_le (product_lt 25 h h) (lit≤ tt)
 
 pub sum_lt_49 : (m z : ℕ) → m < 2 ^ 24 → z < 2 ^ 48 → m * m + z < 2 ^ 49
 sum_lt_49 m z h k = let l : m * m < 2 ^ 48 = product_lt 24 h h in omega arith
-
--- a number whose square is above s
-pub root_pos : (s g : ℕ) → s < g * g → 0 < g
-root_pos s g h = root_lt 0 g (lt_of_le_of_lt zero-le h)

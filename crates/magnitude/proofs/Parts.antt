@@ -1,31 +1,43 @@
 -- A part of a sample as `magnitude` reads it: NaN, infinite, or a whole number of units. Assumes nothing.
-use mathlib.Core.Path.{◌≡◌, refl, sym, ap, ◌∙◌, subst}
-use mathlib.Core.Logic.{inl, inr}
-use Prim.Native.Nat.{ℕ, ◌+◌, ◌-◌, ◌%◌, ◌≤◌, ◌<◌, max}
-use native.Mathlib.Nat.{lt_irrefl, lt_of_not-le, eq-zero-or-pos}
+use mathlib.Core.Path.{◌≡◌, refl, sym, ap, ◌∙◌}
+use mathlib.Core.Logic.{◌⊎◌, inl, inr}
+use Prim.Native.Nat.{ℕ, ◌+◌, ◌%◌, ◌≤◌, ◌<◌}
+use native.Mathlib.Nat.{lt_irrefl, lt_of_not-le}
 use native.Mathlib.Omega.{arith}
-use mathlib.Core.Bool.{Bool, true, false, not, ◌&&◌, cond, true≢false}
+use mathlib.Core.Bool.{Bool, true, false, not, ◌&&◌, ◌||◌, cond, true≢false}
 use lib.Dec.{T, leb}
 use borrow.Author.Tests.{le-ltb}
-use lib.Ieee.{Float, nan, inf, fin, binary32, binary64, lt, ne, is_nan, nan_bits, fits, of_bits, to_bits}
+use lib.Ieee.{Float, nan, inf, fin, binary32, binary64, le, is_nan, nan_bits, fits, of_bits, to_bits}
 use lib.Ieee.Bits.{of_bits-to_bits, nan_bits_above, is_false}
-use lib.Ieee.Compare.{differs_from_itself}
 use lib.Ieee.Scale.{finite}
+use Rattle.std.specs.Float.{float_is_finite, IsFloatMin}
+use Rattle.std.proofs.lemmas.Float.{le_left, T_from_true}
 use Rattle.dsp_types.specs.Samples.{zero_f}
 use Rattle.magnitude.specs.Magnitude.{units, square, largest, magnitude_of}
 use Rattle.magnitude.specs.Pattern.{size_of, pattern_units}
 use Rattle.magnitude.proofs.Largest.{largest_lt}
-use Rattle.magnitude.proofs.Values.{Sized, sized_finite, sized_units, number_at, no_number_at}
+use Rattle.magnitude.proofs.Values.{Sized, sized_units, number_at, no_number_at}
 
--- ---- NaN is what differs from itself
-pub nan_no_number : (x : Float) → ne x x ≡ true → finite x ≡ false
-nan_no_number x e = rw (differs_from_itself x (subst T (sym e) tt))
+-- ---- std's words
+pub finite_is : (x : Float) → float_is_finite x ≡ finite x
+unfolding float_is_finite
+finite_is nan = refl
+finite_is (inf s) = refl
+finite_is (fin s m e) = refl
 
-pub below_not_nan : (x y : Float) → lt x y ≡ true → T (not (is_nan x))
-unfolding lt is_nan
-below_not_nan nan y e = absurd (true≢false (sym e))
-below_not_nan (inf s) y e = tt
-below_not_nan (fin s m k) y e = tt
+-- the lesser of x and a number is a number, and one of the two
+pub min_is : (x c r : Float) → T (not (is_nan c)) → IsFloatMin x c r → T (not (is_nan r)) × ((r ≡ x) ⊎ (r ≡ c))
+min_is x c r n (inl e) = go (le x c) refl e
+  where
+    go : (b : Bool) → le x c ≡ b → r ≡ cond (b || is_nan c) x c → T (not (is_nan r)) × ((r ≡ x) ⊎ (r ≡ c))
+    go true t h = (rw h (le_left x c (T_from_true (le x c) t)), inl h)
+    go false t h = let k : r ≡ c = rw (is_false (is_nan c) n) at h in (rw k n, inr k)
+min_is x c r n (inr e) = go (le c x) (is_nan x) refl e
+  where
+    go : (b d : Bool) → is_nan x ≡ d → r ≡ cond (b || d) c x → T (not (is_nan r)) × ((r ≡ x) ⊎ (r ≡ c))
+    go true d t h = (rw h n, inr h)
+    go false true t h = (rw h n, inr h)
+    go false false t h = (rw (h, t) tt, inl h)
 
 pub not_nan_pattern : (p : ℕ) → p < 0x7ff0_0000_0000_0000 → T (not (nan_bits binary64 p))
 not_nan_pattern p h =
@@ -79,24 +91,9 @@ not_nan_bits p h =
     let m : p % 0x8000_0000 ≡ p = omega arith in
     rw (nan_bits_above, m, le-ltb 0x7f80_0000 p (omega arith)) tt
 
-pub two_sizes : (re im : Float) (p : ℕ) → T (fits binary32 re) → T (fits binary32 im)
-    → (let n = max (size_of re) (size_of im) in (n < 0x7f80_0000 → p ≡ largest (square (pattern_units (size_of re)) + square (pattern_units (size_of im)))) × (0x7f80_0000 ≤ n → p ≡ 0))
-    → T (not (nan_bits binary32 p)) × (of_bits binary32 p ≡ magnitude_of re im)
-two_sizes re im p f g r = elim (eq-zero-or-pos (0x7f80_0000 - max (size_of re) (size_of im))) [
-  | inl z ↦
-      let zero : p ≡ 0 = r.1 (omega arith) in
-      (not_nan_bits p (omega arith), rw zero (sym (infinite z)))
-  | inr z ↦
-      let x : size_of re < 0x7f80_0000 = omega arith in
-      let y : size_of im < 0x7f80_0000 = omega arith in
-      let e = r.0 (omega arith) in (
-        not_nan_bits p (rw e (largest_lt (square (pattern_units (size_of re)) + square (pattern_units (size_of im))))),
-        rw (two_numbers re im (sized_finite re _ _ (number re f x)) (sized_finite im _ _ (number im g y)), units_size re f x, units_size im g y, e),
-      )
-]
-  where
-    infinite : 0x7f80_0000 - max (size_of re) (size_of im) ≡ 0 → magnitude_of re im ≡ zero_f
-    infinite z = elim (eq-zero-or-pos (0x7f80_0000 - size_of re)) [
-      | inl h ↦ zero_first re im (no_number re f (omega arith))
-      | inr h ↦ zero_second re im (no_number im g (omega arith))
-    ]
+pub largest_number : (n p : ℕ) → p ≡ largest n → T (not (nan_bits binary32 p))
+largest_number n p e = not_nan_bits p (rw e (largest_lt n))
+
+pub two_sizes : (re im : Float) (x y p : ℕ) → T (fits binary32 re) → T (fits binary32 im) → finite re ≡ true → finite im ≡ true → x ≡ size_of re → y ≡ size_of im
+    → p ≡ largest (square (pattern_units x) + square (pattern_units y)) → of_bits binary32 p ≡ magnitude_of re im
+two_sizes re im x y p f g a b h k e = rw (two_numbers re im a b, units_size re f (size_lt re f a), units_size im g (size_lt im g b), e, h, k)

@@ -1,25 +1,23 @@
 -- A guess that passes the float test is the magnitude: below re² + im², exactly, and the next f32 above. Assumes nothing.
-use mathlib.Core.Path.{◌≡◌, refl}
+use mathlib.Core.Path.{◌≡◌}
 use Prim.Native.Nat.{ℕ, ◌+◌, ◌*◌, ◌^◌, ◌≤◌, ◌<◌}
 use native.Mathlib.Nat.{le_trans, le_of_lt, lt_irrefl, not-le_of_lt, mul-pos}
 use native.Mathlib.Omega.{arith}
 use mathlib.Core.Logic.{◌⊎◌, inl, inr}
-use mathlib.Core.Bool.{true, false, not, ◌&&◌}
+use mathlib.Core.Bool.{true, false, not}
 use lib.Dec.{T, leb, lit<}
 use lib.Pow.{pow_pos}
-use lib.Ieee.{Float, binary32, binary64, round, neg, add, mul, lt, fits, is_nan, of_bits, to_bits}
-use lib.Ieee.Bits.{of_bits-fits, nan_bits_is}
-use lib.Ieee.Fits.{and_i, fits_widens}
+use lib.Ieee.{Float, binary32, binary64, round, add, mul, lt, fits, is_nan, of_bits, to_bits}
+use lib.Ieee.Bits.{of_bits-fits}
 use lib.Ieee.Exact.{HasValue}
 use lib.Ieee.Scale.{finite}
-use Rattle.dsp_types.proofs.Laws.{both_true}
-use Rattle.dsp_types.specs.Samples.{zero_f}
+use Rattle.std.specs.Float.{IsFloatMin}
 use Rattle.magnitude.specs.Magnitude.{square, largest, magnitude_of, units}
 use Rattle.magnitude.specs.Pattern.{size_of, exponent_of, significand_of, pattern_units}
 use Rattle.magnitude.proofs.Numbers.{square_le, root_lt}
 use Rattle.magnitude.proofs.Values.{sized_units, unsigned_at, pattern_mono}
 use Rattle.magnitude.proofs.Largest.{largest_is, under_intro, under_elim}
-use Rattle.magnitude.proofs.Parts.{number, size_lt, units_size, two_numbers, not_nan_bits}
+use Rattle.magnitude.proofs.Parts.{min_is, number, size_lt, units_size, two_numbers}
 use Rattle.magnitude.proofs.Rounded.{rounded_lt, square_at, sum_at, square_exact, finite_parts}
 
 -- as `quick` computes them
@@ -51,9 +49,14 @@ part x f h =
 pattern_square : (p : ℕ) → p < 0x7f80_0000 → squared (of_bits binary32 p) ≡ round binary64 false (square (pattern_units p)) unit
 pattern_square p h = square_at binary64 (of_bits binary32 p) false (pattern_units p) (2 ^ 149) (pow_pos 149) (unsigned_at p h)
 
--- ---- the test, on the parts x and y as `capped` gives them for re and im
+-- ---- the test, on the parts x and y as `min` gives them for re and im
 abbrev large : Float
 large = of_bits binary32 0x7f00_0000
+
+-- `x.min(LARGE)`
+pub at_most_large : (z x : Float) → IsFloatMin z large x → T (not (is_nan x)) × ((x ≡ z) ⊎ (x ≡ large))
+unfolding is_nan of_bits
+at_most_large z x = min_is z large x tt
 
 held : (x z : Float) → (x ≡ z) ⊎ (x ≡ large) → T (fits binary32 z) → T (fits binary32 x)
 held x z (inl e) f = rw e f
@@ -68,22 +71,13 @@ both_lt : (a b c d : ℕ) → square a + square b < square c → c ≤ d → (a 
 both_lt a b c d h l = let s = square_le l in (root_lt a d (omega arith), root_lt b d (omega arith))
 
 pub passed : (re im x y : Float) (p : ℕ) → T (fits binary32 re) → T (fits binary32 im) → (x ≡ re) ⊎ (x ≡ large) → (y ≡ im) ⊎ (y ≡ large) → p < 0x7f00_0000
-    → (lt (squared (of_bits binary32 p)) (sum_of x y) && lt (sum_of x y) (squared (of_bits binary32 (p + 1)))) ≡ true → of_bits binary32 p ≡ magnitude_of re im
-passed re im x y p f g X Y h t =
-    let test = both_true (lt (squared (of_bits binary32 p)) (sum_of x y)) (lt (sum_of x y) (squared (of_bits binary32 (p + 1)))) t in
-    let F = finite_parts binary64 x y (squared (of_bits binary32 (p + 1))) test.1 in
+    → lt (squared (of_bits binary32 p)) (sum_of x y) ≡ true → lt (sum_of x y) (squared (of_bits binary32 (p + 1))) ≡ true → of_bits binary32 p ≡ magnitude_of re im
+passed re im x y p f g X Y h t u =
+    let F = finite_parts binary64 x y (squared (of_bits binary32 (p + 1))) u in
     let a = square (units x) in
     let b = square (units y) in
     let s = sum_at binary64 (squared x) (squared y) a b unit unit_pos (part x (held x re X f) F.0) (part y (held y im Y g) F.1) in
-    let low : square (pattern_units p) < a + b = rounded_lt binary64 (square (pattern_units p)) (a + b) unit unit_pos (rw (s, pattern_square p (omega arith)) at test.0) in
-    let high : a + b < square (pattern_units (p + 1)) = rounded_lt binary64 (a + b) (square (pattern_units (p + 1))) unit unit_pos (rw (s, pattern_square (p + 1) (omega arith)) at test.1) in
-    let u : (units x < pattern_units 0x7f00_0000) × (units y < pattern_units 0x7f00_0000) = both_lt (units x) (units y) (pattern_units (p + 1)) (pattern_units 0x7f00_0000) high (pattern_mono (p + 1) 0x7f00_0000 (omega arith)) in
-    rw (← own x re X u.0, ← own y im Y u.1, two_numbers x y F.0 F.1, between (a + b) p (omega arith) (le_of_lt low) high)
-
--- ---- what else `quick` needs: -1.0 is below 0.0, and a pattern below that of 2 ^ 127, or one more, is a number's
-pub below_zero : lt (neg (of_bits binary32 0x3f80_0000)) zero_f ≡ true
-unfolding lt neg of_bits
-below_zero = refl
-
-pub not_nan_at : (p : ℕ) → p < 0x7f80_0000 → T (fits binary64 (of_bits binary32 p) && not (is_nan (of_bits binary32 p)))
-not_nan_at p h = and_i (fits binary64 (of_bits binary32 p)) (not (is_nan (of_bits binary32 p))) (fits_widens (of_bits binary32 p) (of_bits-fits binary32 p)) (rw nan_bits_is at (not_nan_bits p h))
+    let low : square (pattern_units p) < a + b = rounded_lt binary64 (square (pattern_units p)) (a + b) unit unit_pos (rw (s, pattern_square p (omega arith)) at t) in
+    let high : a + b < square (pattern_units (p + 1)) = rounded_lt binary64 (a + b) (square (pattern_units (p + 1))) unit unit_pos (rw (s, pattern_square (p + 1) (omega arith)) at u) in
+    let o : (units x < pattern_units 0x7f00_0000) × (units y < pattern_units 0x7f00_0000) = both_lt (units x) (units y) (pattern_units (p + 1)) (pattern_units 0x7f00_0000) high (pattern_mono (p + 1) 0x7f00_0000 (omega arith)) in
+    rw (← own x re X o.0, ← own y im Y o.1, two_numbers x y F.0 F.1, between (a + b) p (omega arith) (le_of_lt low) high)

@@ -1,19 +1,19 @@
 // The stand-in for `abs()` (01, "The past"): the magnitude of a complex sample, cut to an f32.
 #![tactic(auto)]
 
-ghost use Rattle.std.specs.Prelude.{◌≡◌, false, not, ◌⊎◌, T, length, get_or, ℕ, ◌+◌, ◌*◌, ◌/◌, ◌^◌, ◌<◌, ◌≤◌, max};
-ghost use Rattle.std.specs.Float.{nan, binary32, binary64};
-ghost use Rattle.std.specs.Float.Ieee.{is_nan, lt, of_bits, to_bits};
-ghost use Rattle.dsp_types.specs.Samples.{zero_f};
+ghost use Rattle.std.specs.Prelude.{◌≡◌, not, T, ◌+◌, ◌*◌, ◌/◌, ◌^◌, ◌<◌, ◌≤◌, max, IfSome};
+ghost use Rattle.std.specs.Float.{binary64};
+ghost use Rattle.std.specs.Float.Ieee.{is_nan, to_bits};
 ghost use Rattle.magnitude.specs.Magnitude.{magnitude_of, magnitudes_in, largest, square};
 ghost use Rattle.magnitude.specs.Pattern.{size_of, exponent_of, significand_of, pattern_units, packed_of};
 
 // The bit pattern of x without its sign.
+#[tactic(auto, using(crate::proofs::Parts::size_is))]
 fn size(x: f32) -> u32
     requires { T (not (is_nan x)) }
     ensures { result ≡ size_of x }
 {
-    f32::to_bits(x) % 0x8000_0000
+    x.to_bits() % 0x8000_0000
 }
 
 // The patterns below 0x7f80_0000 are the finite values that are not negative, in order. Such a pattern is
@@ -116,47 +116,32 @@ fn larger_first(a: u32, b: u32) -> u32
     packed(e, root(m, z))
 }
 
-// The pattern of the magnitude from those of its parts; 0 where a part is infinite.
+// The same of parts in any order.
 fn pattern(x: u32, y: u32) -> u32
-    ensures { (max x y < 0x7f80_0000 → result ≡ largest (square (pattern_units x) + square (pattern_units y))) × (0x7f80_0000 ≤ max x y → result ≡ 0) }
+    requires { max x y < 0x7f80_0000 }
+    ensures { result ≡ largest (square (pattern_units x) + square (pattern_units y)) }
 {
-    if x >= 0x7f80_0000 {
-        return 0;
-    }
-    if y >= 0x7f80_0000 {
-        return 0;
-    }
-    if x < y {
-        return larger_first(y, x);
-    }
-    larger_first(x, y)
+    larger_first(x.max(y), x.min(y))
 }
 
 // The magnitude by whole numbers, for any parts: where the quick test does not tell it.
+#[tactic(auto, using(crate::proofs::Parts::finite_is, crate::proofs::Parts::size_lt, crate::proofs::Parts::zero_first, crate::proofs::Parts::zero_second, crate::proofs::Parts::largest_number))]
 fn exact(re: f32, im: f32) -> f32
     ensures { result ≡ magnitude_of re im }
 {
-    if re != re {
-        return 0.0;
+    if re.is_finite() && im.is_finite() {
+        f32::from_bits(pattern(size(re), size(im)))
+    } else {
+        0.0
     }
-    if im != im {
-        return 0.0;
-    }
-    f32::from_bits(pattern(size(re), size(im)))
-}
-
-// x, or 2^127 where it is NaN or not below that: there the test of `quick` fails.
-fn capped(x: f32) -> f32
-    ensures { T (not (is_nan result)) × ((result ≡ x) ⊎ (result ≡ of_bits binary32 0x7f00_0000)) }
-{
-    if x < 1.7014118e38 { x } else { 1.7014118e38 }
 }
 
 // A guess at √x, 3.5% off at most: half the exponent, and a chord for the significand.
+#[tactic(auto, using(crate::proofs::Parts::not_nan_pattern))]
 fn rough_root(x: f64) -> f64
     requires { T (not (is_nan x)) × (to_bits binary64 x < 0x8000_0000_0000_0000) }
 {
-    f64::from_bits(0x1ff7_6800_0000_0000 + (f64::to_bits(x) >> 1))
+    f64::from_bits(0x1ff7_6800_0000_0000 + (x.to_bits() >> 1))
 }
 
 // Twice √x from a guess r: Halley's step to n / d and Newton's to n / d + x d / n, in one division. An r that is 3.5% off
@@ -172,42 +157,31 @@ fn twice_root(x: f64, r: f64) -> f64 {
 fn half_pattern(x: f64) -> u32
     requires { T (not (is_nan x)) }
 {
-    let moved = f64::to_bits(x) % 0x4000_0000_0000_0000 + 0x07f0_0000_0000_0000;
+    let moved = x.to_bits() % 0x4000_0000_0000_0000 + 0x07f0_0000_0000_0000;
     ((moved >> 29) % 0x1_0000_0000) as u32
 }
 
-// x, or 1e300 where it is NaN or not below that: NaN has no pattern.
-fn number(x: f64) -> f64
-    ensures { T (not (is_nan result)) }
-{
-    if x < 1.0e300 { x } else { 1.0e300 }
-}
+// 2^127, which stands in `quick` for NaN and for what is above it.
+const LARGE: f32 = 1.7014118e38;
 
-// p, or 0 where it is not below the pattern of 2^127: so the next is a number's too.
-fn capped_pattern(p: u32) -> u32
-    ensures { result < 0x7f00_0000 }
+// The magnitude where a test in f64 tells it. A part's square is an f64, and rounding keeps the order: where the rounded sum
+// lies between the squares of an f32 and the next, so does the exact one. Nothing is proved of the guess r; all but one in
+// 10,000 pass, and none that is the root exactly. `min` makes numbers of NaN and of what is too large, where the test fails.
+#[tactic(auto, using(crate::proofs::Parts::not_nan_bits))]
+fn quick(re: f32, im: f32) -> Option<f32>
+    ensures { IfSome result (λ r. r ≡ magnitude_of re im) }
 {
-    if p < 0x7f00_0000 { p } else { 0 }
-}
-
-// The magnitude where a test in f64 tells it, else -1.0. A part's square is an f64, and rounding keeps the order: where the
-// rounded sum lies between the squares of an f32 and the next, so does the exact one. Nothing is proved of the guess r; all
-// but one in 10,000 pass, and none that is the root exactly. There is no branch, and no Option in the place of
-// -1.0, so that a block is vectorised.
-fn quick(re: f32, im: f32) -> f32
-    ensures { lt result zero_f ≡ false → result ≡ magnitude_of re im }
-{
-    let x = capped(re) as f64;
-    let y = capped(im) as f64;
+    let x = re.min(LARGE) as f64;
+    let y = im.min(LARGE) as f64;
     let s = x * x + y * y;
-    let p = capped_pattern(half_pattern(number(twice_root(s, rough_root(s)))));
+    let p = half_pattern(twice_root(s, rough_root(s)).min(1.0e300)).min(0x7eff_ffff);
     let r = f32::from_bits(p);
     let low = r as f64;
     let high = f32::from_bits(p + 1) as f64;
-    if (low * low < s) & (s < high * high) {
-        r
+    if low * low < s && s < high * high {
+        Some(r)
     } else {
-        -1.0
+        None
     }
 }
 
@@ -215,38 +189,20 @@ fn quick(re: f32, im: f32) -> f32
 pub fn magnitude(re: f32, im: f32) -> f32
     ensures { result ≡ magnitude_of re im }
 {
-    let r = quick(re, im);
-    if r < 0.0 {
-        return exact(re, im);
+    match quick(re, im) {
+        Some(r) => r,
+        None => exact(re, im),
     }
-    r
-}
-
-// Whether some value is below 0. It looks at every one, so that the compiler can take many at once.
-fn any_below(xs: &[f32]) -> bool
-    ensures { result ≡ false → (k : ℕ) → k < length xs.now → lt (get_or xs.now k nan) zero_f ≡ false }
-{
-    let mut found = false;
-    for x in xs {
-        found |= *x < 0.0;
-    }
-    found
 }
 
 // The magnitudes of samples, as many as all three slices have room for. What is behind them in `out` stays.
+#[tactic(auto, using(crate::proofs::Blocks::one_more, crate::proofs::Blocks::all_of), unfolding(crate::specs::Magnitude::magnitudes_in))]
 pub fn magnitudes(re: &[f32], im: &[f32], out: &mut [f32])
     ensures { out.new ≡ magnitudes_in re.now im.now out.old }
 {
     let n = re.len().min(im.len()).min(out.len());
     // By index: of what a zip over `iter_mut` lends, nothing is known after the loop.
     for i in 0..n {
-        out[i] = quick(re[i], im[i]);
-    }
-    if any_below(&out[..n]) {
-        for i in 0..n {
-            if out[i] < 0.0 {
-                out[i] = exact(re[i], im[i]);
-            }
-        }
+        out[i] = magnitude(re[i], im[i]);
     }
 }

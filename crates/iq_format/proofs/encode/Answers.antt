@@ -1,5 +1,6 @@
 -- A part more is written as its word's four bytes.
-use Rattle.std.proofs.Common.{◌+◌, ◌*◌, ◌<◌, length, arith, refl, rules}
+use Rattle.std.proofs.Common.{◌≡◌, ◌+◌, ◌*◌, ◌∙◌, length, ap, arith, refl, rules}
+use Rattle.std.proofs.lemmas.Slice.{take-put_mid, drop-put_mid}
 use Rattle.iq_format.specs.Parts.{part_bytes}
 use Rattle.iq_format.proofs.Parts.{word_turn, left_turn}
 use Rattle.iq_format.proofs.encode.Goals as goal
@@ -11,9 +12,12 @@ loop-n-init c = (search rules, refl, refl, refl)
 pub loop-n-preserved : goal.loop-n-preserved
 loop-n-preserved c =
     let l = c.loop-n in
-    let h : 4 * l.n + 3 < length l.bytes = omega arith in (
+    let w = c.f32_to_bits_with_nan.result in
+    let s = c.copy_from_slice.new.self in
+    let k : length s ≡ 4 = ap length (c.copy_from_slice.ensures.after ∙ c.to_le_bytes.ensures) in (
       l.invariant.0,
       search rules,
-      word_turn l.n c.pattern-w.result c.args.parts.now l.bytes c.args.bytes.now h (omega arith) c.pattern-w.ensures l.invariant.2,
-      left_turn l.n c.pattern-w.result c.args.parts.now l.bytes c.args.bytes.now h l.invariant.3,
+      take-put_mid (4 * l.n) _ l.bytes s (4 * (l.n + 1)) (omega (arith, k)) (search rules)
+          ∙ rw (l.invariant.2, c.copy_from_slice.ensures.after, c.to_le_bytes.ensures) (word_turn l.n w c.args.parts.now (search rules) c.f32_to_bits_with_nan.type_inv c.f32_to_bits_with_nan.ensures),
+      drop-put_mid (4 * l.n) _ l.bytes s (4 * (l.n + 1)) (omega arith) (search rules) (omega (arith, k)) ∙ left_turn l.n l.bytes c.args.bytes.now l.invariant.3,
     )
