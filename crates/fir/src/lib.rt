@@ -72,14 +72,6 @@ fn push(line: &mut [f32; 32], x: f32)
     line[31] = x;
 }
 
-// Writes src to dst from `to` on.
-fn copy(src: &[f32], dst: &mut [f32], to: usize)
-    requires { to + length src.now ≤ length dst.old }
-    ensures { dst.new ≡ take to dst.old ++ src.now ++ drop (to + length src.now) dst.old }
-{
-    dst[to..to + src.len()].copy_from_slice(src);
-}
-
 // One part of a block: writes its outputs, and the line takes the block.
 fn block_part(line: &mut [f32; 32], block: &[f32], out: &mut [f32])
     requires { (length block.now ≤ 1024) × (length block.now ≤ length out.old) }
@@ -88,8 +80,8 @@ fn block_part(line: &mut [f32; 32], block: &[f32], out: &mut [f32])
 {
     let n = block.len();
     let mut row = [0.0f32; 1056];
-    copy(line, &mut row, 0);
-    copy(block, &mut row, 32);
+    row[..32].copy_from_slice(line);
+    row[32..n + 32].copy_from_slice(block);
     filter_block(&row[1..n + 32], out);
     line.copy_from_slice(&row[n..n + 32]);
 }
