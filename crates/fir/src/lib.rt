@@ -65,6 +65,7 @@ fn filter_block(row: &[f32], out: &mut [f32])
 }
 
 // One part of the line takes x as its newest sample.
+#[tactic(auto, using(crate::proofs::Rows::shift))]
 fn push(line: &mut [f32; 32], x: f32)
     ensures { line.new ≡ drop 1 line.old ++ (x ∷ []) }
 {

@@ -22,6 +22,7 @@ fn next(at: usize) -> usize
 }
 
 // The element `delay` steps ago of a ring whose newest stands at `at`. A delay counts modulo 2,048.
+#[tactic(auto, using(crate::proofs::Laws::recalled))]
 pub fn recall(ring: &[f32; 2048], at: usize, delay: usize) -> f32
     ensures { result ≡ ago zero_f (held_in ring.now at) (delay % 2048) }
 {
