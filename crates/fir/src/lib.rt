@@ -1,7 +1,7 @@
 // The filter line (fir.rs): the newest 32 samples, and the symmetric filter over them, for a sample or a block.
 #![tactic(auto)]
 
-ghost use Rattle.std.specs.Prelude.{◌≡◌, [], ◌∷◌, ◌++◌, ◌+◌, ◌-◌, ◌<◌, ◌≤◌, min, length, take, drop, replicate};
+ghost use Rattle.std.specs.Prelude.{◌≡◌, [], ◌∷◌, ◌++◌, ◌<◌, ◌≤◌, length, take, drop, replicate};
 ghost use Rattle.dsp_types.specs.Samples.{silence, ago};
 ghost use Rattle.fir.specs.Fir.{fir_of, filter_of, in_row, line_of, row_outs, filter_row, start_with, line_after, outs_of, block_of, re_of, im_of};
 
