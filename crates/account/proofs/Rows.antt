@@ -6,8 +6,9 @@ use Prim.Native.Nat.{ℕ, zero, suc, ◌+◌, ◌*◌, ◌≤◌, min}
 use native.Mathlib.Omega.{arith}
 use lib.IntN.{ℤ, pos, negsuc}
 use lib.Signed.{mag, lt_z}
-use lib.ListN.{length, get_or, take, drop, replicate, length-append, length-replicate, drop_of_length-le}
-use lib.Seq.{take_at, drop-append-add, drop-drop}
+use lib.ListN.{length, get_or, take, drop, replicate, length-append, length-replicate, length-drop, drop_of_length-le}
+use borrow.Rule.Slice.PartMut.{put_mid}
+use lib.Seq.{length-take-le, take_at, drop-append-add, drop-drop}
 use Rattle.rx_slot.specs.declared.RxBurst.{RxBurst}
 use Rattle.rx_slot.specs.declared.RxSlot.{RxSlot}
 use Rattle.dsp_types.proofs.Signs.{below_is, above_is}
@@ -126,6 +127,17 @@ row_tells done (took s) e = apart (λ h. omega arith) e
 row_tells (took s) (refused n) e = apart (λ h. omega arith) e
 row_tells (took s) done e = apart (λ h. omega arith) e
 row_tells (took s) (took t) e = ap took (same_slot s t e)
+
+-- ---- a row copied into a list, from `at` on
+pub copied : {A : Type 0} (at k : ℕ) (now part row : List A) → part ≡ row → k ≡ length row → put_mid at k now part ≡ take at now ++ row ++ drop (at + length row) now
+copied at k now part row e f = rw (e, f, drop-drop (length row) at now) (sym (append_assoc (take at now) row (drop (at + length row) now)))
+
+-- .. which is no shorter then
+pub copied_within : {A : Type 0} (n at k : ℕ) (now part row : List A) → n ≤ length now → at + k ≤ n → part ≡ row → k ≡ length row → n ≤ length (put_mid at k now part)
+copied_within n at k now part row h l e f =
+    let front : length (take at now) ≡ at = length-take-le at now (omega arith) in
+    let end = drop (at + length row) now in
+    rw (copied at k now part row e f) (omega (arith, front, length-append (take at now ++ row) end, length-append (take at now) row, length-drop (at + length row) now))
 
 -- ---- a row written behind others, from `at` on
 pub behind : (before now after front row : List ℕ) (at size next : ℕ) → now ≡ front ++ drop at before → length front ≡ at → length row ≡ size → next ≡ at + size

@@ -4,7 +4,7 @@ ghost use Rattle.demodulator.specs.View.{view_of};
 ghost use Rattle.account.specs.CallList.{take};
 ghost use Rattle.account.specs.Runs.{lent_bytes, call_of, Makes};
 
-use crate::write::{BYTES, ROW, answer_row, sevens, take_row, write};
+use crate::write::{BYTES, ROW, answer_row, sevens, take_row};
 use demodulator::Demodulator;
 use dsp_types::{ComplexSample, SampleCount};
 
@@ -27,9 +27,9 @@ fn joined(a: &[u8; 1024], b: &[u8; 1024], c: &[u8; 1024]) -> [u8; BYTES]
     ensures { result ≡ a.now ++ (b.now ++ c.now) }
 {
     let mut all = [0; BYTES];
-    write(a, &mut all, 0);
-    write(b, &mut all, 1024);
-    write(c, &mut all, 2048);
+    all[..1024].copy_from_slice(a);
+    all[1024..2048].copy_from_slice(b);
+    all[2048..].copy_from_slice(c);
     all
 }
 

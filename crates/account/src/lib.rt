@@ -13,7 +13,7 @@ pub use call::Call;
 use call::one_call;
 use demodulator::Demodulator;
 use slot_receiver::Mode;
-use write::{BYTES, ROW, write};
+use write::{BYTES, ROW};
 
 // How many calls there is room for in so many numbers and so many bytes.
 #[tactic(auto, unfolding(crate::specs::Runs::room_in))]
@@ -37,8 +37,8 @@ pub fn run_calls(
     let count = calls.len().min(room(told.len(), lent.len()));
     for (i, call) in calls[..count].iter().enumerate() {
         let made = one_call(&mut receiver, *call, other);
-        write(&made.told, told, ROW * i);
-        write(&made.lent, lent, BYTES * i);
+        told[ROW * i..ROW * i + ROW].copy_from_slice(&made.told);
+        lent[BYTES * i..BYTES * i + BYTES].copy_from_slice(&made.lent);
     }
     receiver
 }

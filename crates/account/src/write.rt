@@ -1,5 +1,5 @@
 // What a call answers, and the bytes lent to it, in rows of numbers and of bytes.
-ghost use Rattle.std.specs.Prelude.{◌≡◌, ◌++◌, ◌+◌, ◌≤◌, length, take, drop};
+ghost use Rattle.std.specs.Prelude.{◌≡◌};
 ghost use Rattle.dsp_types.specs.Answers.{number_of};
 ghost use Rattle.slot_receiver.specs.Calls.{refused, took, reply_of, take_reply_of, in_numbers};
 ghost use Rattle.rx_slot.specs.Views.{padded};
@@ -74,12 +74,4 @@ pub(crate) fn take_row(answer: Result<RxSlot, Refusal>) -> [u64; ROW]
         Ok(slot) => slot_row(slot),
         Err(refusal) => refused_row(refusal),
     }
-}
-
-// Writes a row from `to` on.
-pub(crate) fn write<T: Copy>(row: &[T], out: &mut [T], to: usize)
-    requires { to + length row.now ≤ length out.old }
-    ensures { out.new ≡ take to out.old ++ row.now ++ drop (to + length row.now) out.old }
-{
-    out[to..to + row.len()].copy_from_slice(row);
 }

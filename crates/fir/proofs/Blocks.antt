@@ -1,6 +1,7 @@
 -- Blocks: what is read of the row that is made of the line and the block, and that rows of both parts are the samples one by one. Assumes nothing.
 use mathlib.Core.Path.{◌≡◌, refl, sym, ap, ◌∙◌}
-use mathlib.Core.List.{List, [], ◌∷◌, ◌++◌, append-nil}
+use mathlib.Core.List.{List, [], ◌∷◌, ◌++◌, append_assoc, append-nil}
+use borrow.Rule.Slice.PartMut.{put_mid, post_of}
 use mathlib.Core.Logic.{⊎_elim}
 use Prim.Native.Nat.{ℕ, zero, suc, ◌+◌, ◌-◌, ◌<◌, ◌≤◌, min}
 use native.Mathlib.Nat.{zero-min, min-zero, suc-min-suc}
@@ -23,23 +24,33 @@ between : (A rest : List Float) (from to : ℕ) → from ≤ to → length A ≡
 between A rest from to h e =
     rw (drop-append-le from A rest (omega arith)) (take_at (drop from A) rest (to - from) (length-drop from A ∙ omega arith))
 
-module _ (line block z row₁ row₂ : List Float) (n : length line ≡ 32) (h₁ : row₁ ≡ line ++ drop (0 + length line) z)
-    (h₂ : row₂ ≡ take 32 row₁ ++ block ++ drop (32 + length block) row₁) where
-  whole : row₂ ≡ (line ++ block) ++ drop (32 + length block) row₁
-  whole = h₂ ∙ ap (λ (l : List Float). l ++ block ++ drop (32 + length block) row₁) (ap (take 32) h₁ ∙ take_at line (drop (0 + length line) z) 32 n)
+-- the line is copied to the start of zeros, and the block behind it
+module _ (line block z a b : List Float) (n : length line ≡ 32) (h₁ : a ≡ line) (h₂ : b ≡ block) where
+  abbrev row : List Float
+  row = put_mid 32 (length block + 32 - 32) (a ++ drop 32 z) b
 
-  part : (from : ℕ) → from ≤ length block + 32 → take (length block + 32 - from) (drop from row₂) ≡ drop from (line ++ block)
+  abbrev behind : List Float
+  behind = post_of 32 (length block + 32 - 32) (line ++ drop 32 z)
+
+  whole : row ≡ (line ++ block) ++ behind
+  whole = rw (h₁, h₂, take_at line (drop 32 z) 32 n) (sym (append_assoc line block behind))
+
+  -- both lie within the row
+  pub block_within : length block + 32 ≤ length row
+  block_within = rw whole (omega (arith, length-append (line ++ block) behind, length-append line block, n))
+
+  part : (from : ℕ) → from ≤ length block + 32 → take (length block + 32 - from) (drop from row) ≡ drop from (line ++ block)
   part from h =
       ap (λ (l : List Float). take (length block + 32 - from) (drop from l)) whole
-      ∙ between (line ++ block) (drop (32 + length block) row₁) from (length block + 32) h (length-append line block ∙ omega arith)
+      ∙ between (line ++ block) behind from (length block + 32) h (length-append line block ∙ omega arith)
 
   -- the line after the block
-  pub block_line : (next : List Float) → next ≡ take (length block + 32 - length block) (drop (length block) row₂) → next ≡ drop (length block) (line ++ block)
+  pub block_line : (next : List Float) → next ≡ take (length block + 32 - length block) (drop (length block) row) → next ≡ drop (length block) (line ++ block)
   block_line next e = e ∙ part (length block) (omega arith)
 
   -- the outputs
   pub block_outs : (out out' : List Float) → length block ≤ length out
-      → out' ≡ filter_row (take (length block + 32 - 1) (drop 1 row₂)) out
+      → out' ≡ filter_row (take (length block + 32 - 1) (drop 1 row)) out
       → out' ≡ start_with (row_outs (length block) (drop 1 (line ++ block))) out
   unfolding filter_row
   block_outs out out' h e =

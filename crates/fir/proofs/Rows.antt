@@ -62,11 +62,6 @@ module _ (row : List Float) (t v : ℕ) (sum : List Float) (h : t < 4) (k : v < 
         same = λ w l m. get_or-set_other sum v w added nan (λ e. omega arith) ∙ a.same w (omega arith) m;
       }
 
--- a turn of the outer loop
-pub lanes_next : (row : List Float) (t v : ℕ) (sum : List Float) → 4 ≤ v → Lanes row t v sum → Lanes row (t + 1) 0 sum
-lanes_next row t v sum h a =
-    record { four = a.four; more = λ w k. absurd (omega arith); same = λ w k l. rw (add-one t) (a.more w (omega arith)) }
-
 pub lanes_end : (row : List Float) (t v : ℕ) (sum : List Float) → t ≡ 4 → v ≡ 0 → Lanes row t v sum
     → add binary32 (add binary32 (add binary32 (get_or sum 0 nan) (get_or sum 1 nan)) (get_or sum 2 nan)) (get_or sum 3 nan) ≡ fir_of (in_row row)
 unfolding fir_of lane_of

@@ -1,7 +1,7 @@
 // The filter line (fir.rs): the newest 32 samples, and the symmetric filter over them, for a sample or a block.
 #![tactic(auto)]
 
-ghost use Rattle.std.specs.Prelude.{◌≡◌, [], ◌∷◌, ◌++◌, ◌+◌, ◌-◌, ◌<◌, ◌≤◌, min, length, take, drop, replicate};
+ghost use Rattle.std.specs.Prelude.{◌≡◌, [], ◌∷◌, ◌++◌, ◌<◌, ◌≤◌, length, take, drop, replicate};
 ghost use Rattle.dsp_types.specs.Samples.{silence, ago};
 ghost use Rattle.fir.specs.Fir.{fir_of, filter_of, in_row, line_of, row_outs, filter_row, start_with, line_after, outs_of, block_of, re_of, im_of};
 
@@ -65,19 +65,12 @@ fn filter_block(row: &[f32], out: &mut [f32])
 }
 
 // One part of the line takes x as its newest sample.
+#[tactic(auto, using(crate::proofs::Rows::shift))]
 fn push(line: &mut [f32; 32], x: f32)
     ensures { line.new ≡ drop 1 line.old ++ (x ∷ []) }
 {
     line.copy_within(1.., 0);
     line[31] = x;
-}
-
-// Writes src to dst from `to` on.
-fn copy(src: &[f32], dst: &mut [f32], to: usize)
-    requires { to + length src.now ≤ length dst.old }
-    ensures { dst.new ≡ take to dst.old ++ src.now ++ drop (to + length src.now) dst.old }
-{
-    dst[to..to + src.len()].copy_from_slice(src);
 }
 
 // One part of a block: writes its outputs, and the line takes the block.
@@ -88,8 +81,8 @@ fn block_part(line: &mut [f32; 32], block: &[f32], out: &mut [f32])
 {
     let n = block.len();
     let mut row = [0.0f32; 1056];
-    copy(line, &mut row, 0);
-    copy(block, &mut row, 32);
+    row[..32].copy_from_slice(line);
+    row[32..n + 32].copy_from_slice(block);
     filter_block(&row[1..n + 32], out);
     line.copy_from_slice(&row[n..n + 32]);
 }

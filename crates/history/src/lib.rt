@@ -22,6 +22,7 @@ fn next(at: usize) -> usize
 }
 
 // The element `delay` steps ago of a ring whose newest stands at `at`. A delay counts modulo 2,048.
+#[tactic(auto, using(crate::proofs::Laws::recalled))]
 pub fn recall(ring: &[f32; 2048], at: usize, delay: usize) -> f32
     ensures { result ≡ ago zero_f (held_in ring.now at) (delay % 2048) }
 {
@@ -39,18 +40,16 @@ fn store_run(ring: &mut [f32; 2048], at: usize, from: &[f32]) -> usize
     (at % 2048 + from.len()) % 2048
 }
 
-// Writes `from`, oldest first, into a ring whose newest stands at `at`, and returns where the newest then stands. It is stored run by run,
-// since it may be longer than the ring.
+// Writes `from`, oldest first, into a ring whose newest stands at `at`, and returns where the newest then stands. The first run ends
+// with the ring, and each one behind it begins with the ring.
 pub fn store(ring: &mut [f32; 2048], at: usize, from: &[f32]) -> usize
     ensures index { result ≡ (at % 2048 + length from.now) % 2048 }
     ensures held { held_in ring.new result ≡ held_after (held_in ring.old at) from.now }
 {
-    let mut newest = at % 2048;
-    let mut rest = from;
-    while !rest.is_empty() {
-        let (run, behind) = rest.split_at(rest.len().min(2048 - next(newest)));
+    let (run, behind) = from.split_at(from.len().min(2048 - next(at)));
+    let mut newest = store_run(ring, at, run);
+    for run in behind.chunks(2048) {
         newest = store_run(ring, newest, run);
-        rest = behind;
     }
     newest
 }

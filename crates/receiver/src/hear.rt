@@ -57,8 +57,7 @@ impl State {
         let zero = ComplexSample { re: 0.0, im: 0.0 };
         let count = missing_samples(valid_count(self.next_input_sample_count), counter);
         let mut handed = false;
-        for done in 0..count {
-            let left = count - done;
+        for left in (1..=count).rev() {
             let hands = self.process_sample(re, im, abs, zero, counter.minus(left as i64));
             handed |= hands;
         }

@@ -1,5 +1,6 @@
 -- A turn makes one call more and writes its answer behind the others; the theorem is then cited.
 use Rattle.std.proofs.Common.{◌≡◌, ◌<◌, arith}
+use Rattle.account.proofs.Rows.{copied}
 use Rattle.account.proofs.Running.{enough, none_made, one_more, all_made}
 use Rattle.std.proofs.lemmas.List.{length-take}
 use Rattle.account.specs.declared.call.Call as Declared
@@ -18,8 +19,8 @@ loop-i-preserved c =
     record {
       room = c.loop-i.invariant.room;
       written =
-          one_more _ _ c.loop-i.i c.min-count.result _ n c.loop-i.invariant.room.of_calls c.loop-i.invariant.written c.one_call-made.ensures c.write.ensures
-          c.write-in-loop-i.ensures;
+          one_more _ _ c.loop-i.i c.min-count.result _ n c.loop-i.invariant.room.of_calls c.loop-i.invariant.written c.one_call-made.ensures
+          (copied _ _ _ _ _ c.copy_from_slice.ensures.after (omega arith)) (copied _ _ _ _ _ c.copy_from_slice-in-loop-i.ensures.after (omega arith));
     }
 
 pub returns : goal.returns

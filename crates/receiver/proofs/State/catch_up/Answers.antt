@@ -1,5 +1,5 @@
 -- Zeros for what is missing, until none is left.
-use Rattle.std.proofs.Common.{◌≡◌, ℕ, ◌+◌, ◌-◌, ◌<◌, ◌≤◌, ◌^◌, Bool, ◌||◌, ap, sym, ◌∙◌, ℤ, pos, ◌-ℤ◌, arith}
+use Rattle.std.proofs.Common.{◌≡◌, ℕ, ◌<◌, ◌≤◌, ◌^◌, Bool, ◌||◌, refl, ap, sym, ◌∙◌, ℤ, pos, ◌-ℤ◌, arith}
 use mathlib.Core.Bool.{or_assoc, or-false}
 use lib.Dec.{lit≤}
 use mir.Syntax.{w64}
@@ -40,11 +40,8 @@ under counter left l h =
 pub missing_samples-count-requires : goal.missing_samples-count-requires
 missing_samples-count-requires c = rw c.valid_count.ensures (valid_counter c.args.self.now.next_input_sample_count.0, c.requires.0, c.requires.1)
 
-pub loop-done-init : goal.loop-done-init
-loop-done-init c =
-    let n = c.missing_samples-count.result in
-    let e : n - 0 ≡ n = omega arith in
-    record { fed = rw e; windows = rw e }
+pub loop-left-init : goal.loop-left-init
+loop-left-init c = record { fed = refl; windows = refl }
 
 pub overflow_cast-left : goal.overflow_cast-left
 overflow_cast-left c =
@@ -54,17 +51,16 @@ overflow_cast-left c =
 pub process_sample-hands-requires : goal.process_sample-hands-requires
 process_sample-hands-requires c =
     let n = fewer (goal.at.process_sample-hands-requires c).After-missing_samples-count in
-    let left = c.missing_samples-count.result - c.loop-done.done in
+    let left = c.loop-left.left in
     let low : left ≤ up c.args.counter.0 = omega (arith, n) in
     rw (c.minus.ensures, under c.args.counter.0 left low c.requires.0) (counter_before c.args.counter.0 left low c.requires.0)
 
-pub loop-done-preserved : goal.loop-done-preserved
-loop-done-preserved c =
-    let l = c.loop-done in
+pub loop-left-preserved : goal.loop-left-preserved
+loop-left-preserved c =
+    let l = c.loop-left in
     let k = c.args.counter.0 in
-    let count = c.missing_samples-count.result in
-    let left = count - l.done in
-    let n = fewer (goal.at.loop-done-preserved c).After-missing_samples-count in
+    let left = l.left in
+    let n = fewer (goal.at.loop-left-preserved c).After-missing_samples-count in
     let some : 0 < left = omega arith in
     let low : left ≤ up k = omega (arith, n) in
     let r = receiver_of l.self l.re l.im l.abs in
@@ -73,29 +69,28 @@ loop-done-preserved c =
     let after : receiver_of p.new.self p.new.re p.new.im p.new.abs ≡ process_sample r silence (k -ℤ pos left) =
     p.ensures.state ∙ ap (process_sample r silence) counter in
     let hands : p.result ≡ hands_over (window_of r silence (k -ℤ pos left)) = p.ensures.handed ∙ ap (λ (z : ℤ). hands_over (window_of r silence z)) counter in
-    let less : count - (l.done + 1) ≡ left - 1 = omega arith in
     record {
-      fed = l.invariant.fed ∙ one_zero left r k some ∙ rw (less, after);
+      fed = l.invariant.fed ∙ one_zero left r k some ∙ rw after;
       windows =
           l.invariant.windows
           ∙ ap (λ (b : Bool). l.handed || b) (one_zero_hands left r k some)
           ∙ sym (or_assoc l.handed (hands_over (window_of r silence (k -ℤ pos left))) _)
-          ∙ rw (less, after, hands);
+          ∙ rw (after, hands);
     }
 
 pub returns-clause-handed : goal.returns-clause-handed
 returns-clause-handed c =
     let m = (goal.at.returns-clause-handed c).After-missing_samples-count in
-    let l = c.loop-done in
+    let l = c.loop-left in
     sym (or-false l.handed)
-    ∙ ap (λ (b : Bool). l.handed || b) (sym (no_zeros_hand (c.missing_samples-count.result - l.done) (receiver_of l.self l.re l.im l.abs) c.args.counter.0 (omega arith)))
+    ∙ ap (λ (b : Bool). l.handed || b) (sym (no_zeros_hand l.left (receiver_of l.self l.re l.im l.abs) c.args.counter.0 (omega arith)))
     ∙ sym l.invariant.windows
     ∙ ap (λ (n : ℕ). hands_over (zeros_windows n (given m) c.args.counter.0)) (lost m)
 
 pub returns-clause-state : goal.returns-clause-state
 returns-clause-state c =
     let m = (goal.at.returns-clause-state c).After-missing_samples-count in
-    let l = c.loop-done in
-    no_zeros (c.missing_samples-count.result - l.done) (receiver_of l.self l.re l.im l.abs) c.args.counter.0 (omega arith)
+    let l = c.loop-left in
+    no_zeros l.left (receiver_of l.self l.re l.im l.abs) c.args.counter.0 (omega arith)
     ∙ sym l.invariant.fed
     ∙ ap (λ (n : ℕ). feed_zeros n (given m) c.args.counter.0) (lost m)
