@@ -61,9 +61,9 @@ fn read<B: Copy, F: Fn(B) -> f32>(raw: &[B], parts: &mut [f32], part: F) -> usiz
     ensures rest { drop result parts.new ≡ drop result parts.old }
 {
     let count = parts.len().min(raw.len());
-    // By index: of what `iter_mut` in a zip and `chunks_exact_mut` lend, nothing is known after the loop.
-    for n in 0..count {
-        parts[n] = part(raw[n]);
+    // Written by index: of what `iter_mut` in a zip lends, nothing is known after the loop.
+    for (n, item) in raw[..count].iter().enumerate() {
+        parts[n] = part(*item);
     }
     count
 }
@@ -86,9 +86,9 @@ pub fn encode(parts: &[f32], bytes: &mut [u8]) -> usize
     ensures bytes { bytes.new ≡ part_bytes (take result parts.now) ++ drop (4 * result) bytes.old }
 {
     let count = parts.len().min(bytes.len() / 4);
-    // By index, as in `read`.
-    for n in 0..count {
-        bytes[4 * n..4 * n + 4].copy_from_slice(&pattern(parts[n]).to_le_bytes());
+    // Written by index, as in `read`: `chunks_exact_mut` says as little.
+    for (n, part) in parts[..count].iter().enumerate() {
+        bytes[4 * n..4 * n + 4].copy_from_slice(&pattern(*part).to_le_bytes());
     }
     count
 }
