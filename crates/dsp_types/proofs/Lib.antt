@@ -5,3 +5,4 @@ pub mod IntLaws
 pub mod RingLaws
 pub mod Laws
 pub mod Numbers
+pub mod Chunks

@@ -3,7 +3,6 @@ use mathlib.Core.Path.{◌≡◌, refl, sym, ap, ◌∙◌}
 use mir.Syntax.{w16, w32}
 use Rattle.std.proofs.lemmas.Int.{ints}
 use Rattle.std.specs.Int.{from_le_bytes, to_le_bytes}
-use Rattle.std.specs.Simd.{first_chunks}
 use mir.Val.{to_z}
 use mathlib.Core.List.{List, [], ◌∷◌, ◌++◌}
 use Prim.Native.Nat.{ℕ, zero, suc, ◌+◌, ◌*◌, ◌/◌, ◌%◌, ◌<◌, ◌≤◌}
@@ -92,16 +91,6 @@ word_32 (a ∷ b ∷ []) n h e = absurd (omega arith)
 word_32 (a ∷ b ∷ c ∷ []) n h e = absurd (omega arith)
 word_32 (a ∷ b ∷ c ∷ d ∷ []) n h e = omega arith
 word_32 (a ∷ b ∷ c ∷ d ∷ x ∷ l) n h e = absurd (omega arith)
-
-chunk_at : (w m n : ℕ) (bytes d : List ℕ) → n < m → get_or (first_chunks w m bytes) n d ≡ take w (drop (w * n) bytes)
-chunk_at w zero n bytes d h = absurd (omega arith)
-chunk_at w (suc m) zero bytes d h = let z : w * 0 ≡ 0 = omega arith in rw z
-chunk_at w (suc m) (suc n) bytes d h =
-    let e : w * suc n ≡ w + w * n = omega (arith, mul-suc w n) in
-    rw (e, ← drop-drop (w * n) w bytes) (chunk_at w m n (drop w bytes) d (omega arith))
-
-pub chunk_is : (w m k : ℕ) (bytes : List ℕ) (chunks : List (List ℕ)) → chunks ≡ first_chunks w m bytes → k < m → get_or chunks k [] ≡ take w (drop (w * k) bytes)
-chunk_is w m k bytes chunks e h = ap (λ (l : List (List ℕ)). get_or l k []) e ∙ chunk_at w m k bytes [] h
 
 pub word_16 : (raw : List ℕ) (n : ℕ) → length raw ≡ 2 → n ≡ from_le_bytes w16 raw → n ≡ word_of raw
 unfolding word_of

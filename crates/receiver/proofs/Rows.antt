@@ -8,6 +8,7 @@ use native.Mathlib.Numerals.{add-one}
 use lib.ListN.{length, take, drop, set, get_or}
 use lib.Seq.{append_snoc}
 use lib.Ieee.{Float, nan}
+use Rattle.std.proofs.lemmas.List.{get_or-take, get_or-drop}
 use Rattle.dsp_types.specs.declared.ComplexSample.{ComplexSample}
 use Rattle.dsp_types.specs.Refusals.{beyond}
 use Rattle.fir.proofs.Blocks.{length_samples}
@@ -68,6 +69,15 @@ split_one parts re im at n h k l f s =
           ∙ sym (append_snoc xs (part parts (at + n)) (interleaved (drop (2 * (at + n + 1)) parts)))
           ∙ rw (add-one n, z, e);
     }
+
+-- the i-th part of a pair
+pub pair_part : (parts : List Float) (at n i : ℕ) → i < 2 → get_or (take 2 (drop (2 * n) (drop (2 * at) parts))) i nan ≡ get_or parts (2 * (at + n) + i) nan
+pair_part parts at n i h =
+    let e : 2 * at + (2 * n + i) ≡ 2 * (at + n) + i = omega arith in
+    get_or-take 2 (drop (2 * n) (drop (2 * at) parts)) i nan h
+    ∙ get_or-drop (2 * n) (drop (2 * at) parts) i nan
+    ∙ get_or-drop (2 * at) parts (2 * n + i) nan
+    ∙ ap (λ (k : ℕ). get_or parts k nan) e
 
 -- ---- their count
 

@@ -26,8 +26,8 @@ pub struct Fed {
     pub stop: Stop,
 }
 
-// Writes the parts of samples from the one numbered `at` on, at most so many, up to one that is too large. Returns how many. By index: of
-// two rows that are written through one zip, nothing is known after the loop.
+// Writes the parts of samples from the one numbered `at` on, at most so many, up to one that is too large. Returns how many. Written by
+// index: of two rows that are written through one zip, nothing is known after the loop.
 fn parts_of(samples: &[f32], at: usize, most: usize, re: &mut [f32], im: &mut [f32]) -> usize
     requires { (at ≤ length samples.now / 2) × (length re.old ≡ 512) × (length im.old ≡ 512) }
     ensures few { (result ≤ most) × (result ≤ 512) × (at + result ≤ length samples.now / 2) }
@@ -35,20 +35,17 @@ fn parts_of(samples: &[f32], at: usize, most: usize, re: &mut [f32], im: &mut [f
     ensures same { interleaved (drop (2 * at) samples.now) ≡ first_of result re.new im.new ++ interleaved (drop (2 * (at + result)) samples.now) }
     ensures long { (length re.new ≡ 512) × (length im.new ≡ 512) }
 {
-    let room = most.min(PIECE).min(samples.len() / 2 - at);
-    let mut len: usize = 0;
-    while len < room {
-        let x = samples[2 * (at + len)];
-        let y = samples[2 * (at + len) + 1];
+    let pairs = samples[2 * at..].as_chunks::<2>().0;
+    let room = pairs.len().min(most).min(PIECE);
+    for (len, [x, y]) in pairs[..room].iter().enumerate() {
         // Both parts are tested: one branch for each sample.
-        if is_beyond(x) | is_beyond(y) {
+        if is_beyond(*x) | is_beyond(*y) {
             return len;
         }
-        re[len] = x;
-        im[len] = y;
-        len += 1;
+        re[len] = *x;
+        im[len] = *y;
     }
-    len
+    room
 }
 
 impl State {

@@ -3,7 +3,8 @@ use Rattle.std.proofs.Common.{◌≡◌, ℕ, ◌<◌, ◌/◌, ◌∙◌, ap, �
 use Rattle.std.specs.Float.{Float, nan}
 use Rattle.iq_format.specs.declared.Format.TheVariants.{Cf32, Cs16, Cu8}
 use Rattle.iq_format.specs.Parts.{part_of, word_of}
-use Rattle.iq_format.proofs.Parts.{part_word, all_read, chunk_is, word_of_one}
+use Rattle.dsp_types.proofs.Chunks.{chunk_is}
+use Rattle.iq_format.proofs.Parts.{part_word, all_read, word_of_one}
 use Rattle.iq_format.proofs.decode.Goals as goal
 
 pub returns-in-Cf32-clause-parts : goal.returns-in-Cf32-clause-parts
