@@ -293,7 +293,7 @@ module _ (due other : ℕ → Result Due ℕ) (k n : ℕ) (h : (j : ℕ) → oth
   unfolding fed_block
   fed_refusal r = refl
 
-  pub wrote_more : (r : ℕ) (t u : Sender) (out₀ out part : List Float) → Wrote (fed_block due k r s) k r t out₀ out
+  wrote_more : (r : ℕ) (t u : Sender) (out₀ out part : List Float) → Wrote (fed_block due k r s) k r t out₀ out
       → Wrote (fed_block other n 0 t) n 0 u (take (length out - 2 * k) (drop (2 * k) out)) part
       → Wrote (fed_block due (k + n) r s) (k + n) r u out₀ (take (2 * k) out ++ (part ++ drop (length out - 2 * k) (drop (2 * k) out)))
   wrote_more r t u out₀ out part a b = go (subst (λ (v : Sender). Wrote (fed_block other n 0 v) n 0 u (take (length out - 2 * k) (drop (2 * k) out)) part) a.sent b)
@@ -318,11 +318,19 @@ module _ (due other : ℕ → Result Due ℕ) (k n : ℕ) (h : (j : ℕ) → oth
 
 -- ---- what is due later, and no samples
 
-pub due_later : (first start : ℕ) (bits : Option (List ℕ)) (k j : ℕ) → place_due (first + k) start bits j ≡ place_due first start bits (k + j)
+due_later : (first start : ℕ) (bits : Option (List ℕ)) (k j : ℕ) → place_due (first + k) start bits j ≡ place_due first start bits (k + j)
 unfolding place_due
 due_later first start bits k j =
     let m : first + k + j ≡ first + (k + j) = omega arith in
     rw m
+
+-- a piece behind those that were sent
+pub wrote_later : (first start : ℕ) (bits : Option (List ℕ)) (s : Sender) {k n m : ℕ} {t u : Sender} {out₀ out part : List Float} → m ≡ k + n
+    → Wrote (fed_block (place_due first start bits) k 0 s) k 0 t out₀ out
+    → Wrote (fed_block (place_due (first + k) start bits) n 0 t) n 0 u (take (length out - 2 * k) (drop (2 * k) out)) part
+    → Wrote (fed_block (place_due first start bits) m 0 s) m 0 u out₀ (take (2 * k) out ++ (part ++ drop (length out - 2 * k) (drop (2 * k) out)))
+wrote_later first start bits s {k} {n} {m} {t} {u} {out₀} {out} {part} e a b =
+    rw e (wrote_more (place_due first start bits) (place_due (first + k) start bits) k n (due_later first start bits k) s 0 t u out₀ out part a b)
 
 pub wrote_none : (due : ℕ → Result Due ℕ) (r : ℕ) (s : Sender) (out : List Float) → Wrote (fed_block due 0 r s) 0 r s out out
 unfolding fed_block inputs_of outs_of line_after phases_of parts_of start_with

@@ -118,12 +118,10 @@ impl Modulator {
             count 0 (sender_of self.new mapper.new) out.old out.new }
         ensures kept { count ≡ 0 → (self.new ≡ self.old) × (mapper.new ≡ mapper.old) }
     {
-        // Nothing is known of a buffer that is written through its chunks.
-        let mut done: usize = 0;
-        while done < count {
+        // By index: of what `chunks_mut` lends, nothing is known after the loop.
+        for done in (0..count).step_by(256) {
             let n = (count - done).min(256);
             self.piece(mapper, n, counter + done as u64, slot, &mut out[2 * done..]);
-            done += n;
         }
     }
 
