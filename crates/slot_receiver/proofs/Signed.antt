@@ -61,6 +61,13 @@ wider n l h = record { high = omega (arith, l, h); low = omega (arith, l, h) }
 pub within_pos : {n : ℕ} (m : ℕ) → n ≤ m → Within m (pos n)
 within_pos m h = record { high = h; low = omega arith }
 
+-- so few more, or less, than a number within bounds
+pub plus_few : {m : ℕ} (n : ℕ) {z : ℤ} → m ≤ 2 ^ 61 → n ≤ 2 ^ 61 → Within m z → fitted (z +ℤ pos n) ≡ z +ℤ pos n
+plus_few n l k h = plus_is (wider (2 ^ 61) l h) (within_pos (2 ^ 61) k)
+
+pub minus_few : {m : ℕ} (n : ℕ) {z : ℤ} → m ≤ 2 ^ 61 → n ≤ 2 ^ 61 → Within m z → fitted (z -ℤ pos n) ≡ z -ℤ pos n
+minus_few n l k h = minus_is (wider (2 ^ 61) l h) (within_pos (2 ^ 61) k)
+
 pub within_sum : {a b : ℕ} (x y : ℤ) → Within a x → Within b y → Within (a + b) (x +ℤ y)
 within_sum x y h k = bounded (x +ℤ y) (up x + up y) (dn x + dn y) (omega (arith, sum x y)) (omega (arith, h, k)) (omega (arith, h, k))
 
