@@ -2,7 +2,7 @@
 use mathlib.Core.Path.{◌≡◌}
 use Prim.Native.Nat.{ℕ, ◌+◌, ◌-◌, ◌/◌, ◌<◌, ◌≤◌, ◌^◌}
 use native.Mathlib.Omega.{arith}
-use lib.IntN.{ℤ, pos, negsuc, neg_ℤ, ◌+ℤ◌, ◌-ℤ◌, +ℤ_idl}
+use lib.IntN.{ℤ, pos, negsuc, neg_ℤ, ◌+ℤ◌, ◌-ℤ◌}
 use lib.Dec.{lit≤}
 use Rattle.slot_receiver.specs.declared.Mode.{Mode}
 use Rattle.slot_receiver.specs.declared.Mode.TheVariants.{Idle, DlUnsynchronized, Dl, Ul}
@@ -85,9 +85,6 @@ ready_within Dl = within_pos 1020 (lit≤ tt)
 ready_within Ul = within_pos 1020 (lit≤ tt)
 
 -- ---- skipped slots
-
-pub from_zero : (z : ℤ) → pos 0 -ℤ z ≡ neg_ℤ z
-from_zero z = +ℤ_idl (neg_ℤ z)
 
 pub negated_fits : (z : ℤ) → Within (2 ^ 61) z → SFits w64 (pos 0 -ℤ z)
 negated_fits z h = difference_fits (pos 0) z (within_pos (2 ^ 61) (lit≤ tt)) h
