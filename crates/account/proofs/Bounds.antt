@@ -6,6 +6,7 @@ use mathlib.Core.List.{List, []}
 use mathlib.Core.Logic.{◌⊎◌, inl, inr}
 use Prim.Native.Nat.{ℕ, zero, suc, ◌+◌, ◌-◌, ◌*◌, ◌%◌, ◌≤◌, ◌<◌, min}
 use native.Mathlib.Omega.{arith}
+use native.Mathlib.Numerals.{add-one}
 use native.Mathlib.Nat.{mod-eq_of_lt}
 use lib.IntN.{ℤ, pos, negsuc, ◌+ℤ◌, ◌-ℤ◌}
 use lib.Dec.{leb}
@@ -352,7 +353,7 @@ accept_within r x k few w h =
     let a : ClosedAt r x (pos k) = closed_by r x k (rw (valid_count_lem r w, w.next) h) in
     record {
       count = suc k;
-      next = ap pos add_one;
+      next = ap pos (add-one k);
       most = few;
       bounded = record { timely = b.timely; misses = b.misses };
       current = s.current;
@@ -360,9 +361,6 @@ accept_within r x k few w h =
       closing = rw a.last (last_valid (accept_windows r x (pos k)) r.slot.closing_counter (λ v m. omega (arith, closed_below r x k a v m, few)) w.closing);
       views = s.views w.views;
     }
-  where
-    add_one : k + 1 ≡ suc k
-    add_one = omega arith
 
 -- a refused call leaves the receiver, and one that is not refused comes to o
 unless_within : (n : ℕ) (r : Receiver) (lent : List (List ℕ)) (o : Outcome) → InBounds r → (n ≡ 0 → InBounds o.receiver) → InBounds (unless n r lent o).receiver

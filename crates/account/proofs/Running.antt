@@ -4,10 +4,9 @@ use Prim.Native.Nat.{ℕ, zero, suc, ◌+◌, ◌*◌, ◌/◌, ◌≤◌, ◌<�
 use native.Mathlib.Nat.{min-le_right, min_comm}
 use Rattle.std.proofs.lemmas.List.{take_more, take_min, get_or-take, reverse-append, length-reverse, map-append, length-map, length-take}
 use native.Mathlib.Omega.{arith}
-use native.Mathlib.Numerals.{add-one}
 use mathlib.Core.List.{List, [], ◌∷◌, ◌++◌}
 use lib.ListN.{length, get_or, take, drop, replicate, length-replicate, replicate-append-replicate}
-use lib.IntN.{ℤ, pos}
+use lib.IntN.{ℤ}
 use Rattle.dsp_types.specs.declared.ComplexSample.{ComplexSample}
 use Rattle.rx_slot.specs.declared.RxSlot.{RxSlot}
 use Rattle.slot_receiver.specs.declared.Mode.TheVariants.{DlUnsynchronized}

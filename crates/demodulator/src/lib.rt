@@ -21,6 +21,7 @@ pub struct Demodulator {
 }
 
 impl Demodulator {
+    #[tactic(auto, unfolding(crate::specs::View::view_of))]
     pub fn new(initial_mode: Mode) -> Demodulator
         ensures receiver { view_of result ≡ new initial_mode }
         ensures mode { result.state.slots.mode ≡ mode_number initial_mode }
@@ -32,6 +33,7 @@ impl Demodulator {
     }
 
     // Takes one sample, or refuses it and stays as it is.
+    #[tactic(auto, unfolding(crate::specs::View::view_of))]
     pub fn sample(
         &mut self,
         input: ComplexSample,
@@ -52,6 +54,7 @@ impl Demodulator {
     }
 
     // Takes the slot that waits: its views fill 510, 254 and 254 lent bytes. Or refuses, and everything stays as it is.
+    #[tactic(auto, unfolding(crate::specs::View::view_of))]
     pub fn take_demodulated_slot(
         &mut self,
         slot: &mut [u8],
@@ -67,6 +70,7 @@ impl Demodulator {
     }
 
     // Takes the slot timing of another receiver. A receiver that finds its own is refused.
+    #[tactic(auto, unfolding(crate::specs::View::view_of))]
     pub fn sync_to_demodulator(&mut self, demod: &Demodulator) -> Result<(), Refusal>
         ensures answer { reply_of result ≡ (follow_outcome (view_of self.old) (view_of demod.now)).reply }
         ensures receiver { view_of self.new ≡ (follow_outcome (view_of self.old) (view_of demod.now)).receiver }

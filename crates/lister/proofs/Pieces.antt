@@ -1,6 +1,6 @@
 -- Inputs with the same listing, whatever follows: too many characters are too many, and behind another letter only a wrong character counts.
 use mathlib.Core.Path.{◌≡◌, refl, sym, ap, ◌∙◌, subst}
-use mathlib.Core.Bool.{Bool, true, false, cond, ◌||◌, or_assoc}
+use mathlib.Core.Bool.{Bool, true, false, cond, ◌||◌, or_assoc, or-true}
 use mathlib.Core.List.{List, [], ◌∷◌, ◌++◌, append-nil}
 use Prim.Native.Nat.{ℕ, ◌≤◌}
 use native.Mathlib.Omega.{arith}
@@ -47,10 +47,6 @@ judged l (x ∷ xs) h = ap (listed_answer (letter_type l)) (long_answer (letter_
 same : (l : ℕ) (xs ys : List ℕ) → 464 ≤ length xs → 464 ≤ length ys → not_characters (trimmed 10 xs) ≡ not_characters (trimmed 10 ys) → listing (l ∷ xs) ≡ listing (l ∷ ys)
 same l xs ys h k e = judged l xs h ∙ rw e (sym (judged l ys k))
 
-or_true : (b : Bool) → (b || true) ≡ true
-or_true true = refl
-or_true false = refl
-
 not_append : (xs ys : List ℕ) → not_characters (xs ++ ys) ≡ (not_characters xs || not_characters ys)
 unfolding not_characters
 not_append [] ys = refl
@@ -80,7 +76,7 @@ module _ (l x p b : ℕ) (ys t : List ℕ) (n : length ys ≡ 462) where
 
   wrong : not_character p ≡ true → listing (l ∷ p ∷ (ys ++ (b ∷ [])) ++ t) ≡ listing (l ∷ x ∷ (ys ++ (p ∷ [])) ++ (b ∷ t))
   unfolding not_characters
-  wrong e = kept p (after p ∙ rw e (sym (before ∙ rw e (or_true (not_characters (x ∷ ys))))))
+  wrong e = kept p (after p ∙ rw e (sym (before ∙ rw e (or-true (not_characters (x ∷ ys))))))
 
 -- a list of 465 bytes by its ends
 ends : (B : List ℕ) → length B ≡ 465 → B ≡ get_or B 0 0 ∷ get_or B 1 0 ∷ (take 462 (drop 2 B) ++ (get_or B 464 0 ∷ []))

@@ -55,6 +55,7 @@ pub extern "C" fn tetra_build_normal(
 }
 
 // Clause 9.4.4.2.4, normal uplink burst: training sequence 1 or 2, two blocks of 216 bits.
+#[tactic(auto, using(crate::proofs::Building::uplink_refusal_lem, crate::proofs::Building::uplink_left))]
 #[unsafe(no_mangle)]
 pub extern "C" fn tetra_build_normal_uplink(
     train: u32,
@@ -70,6 +71,7 @@ pub extern "C" fn tetra_build_normal_uplink(
 }
 
 // Clause 9.4.4.2.1, control uplink burst: two blocks of 84 bits.
+#[tactic(auto, using(crate::proofs::Building::uplink_refusal_lem, crate::proofs::Building::uplink_left))]
 #[unsafe(no_mangle)]
 pub extern "C" fn tetra_build_control_uplink(blk1: &[u8], blk2: &[u8], bits: &mut [u8]) -> u32
     ensures refusal { result ≡ uplink_refusal 206 (control_uplink blk1.now blk2.now) bits.old }

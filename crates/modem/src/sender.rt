@@ -71,6 +71,7 @@ pub extern "C" fn tetra_sender_new() -> TetraSender
 }
 
 // Sends one sample, or refuses and stays as it is. The bits count where has_bits is not 0.
+#[tactic(auto, unfolding(crate::specs::Send::sender_in, modulator::specs::Sender::sender_reply))]
 #[unsafe(no_mangle)]
 pub extern "C" fn tetra_send_sample(
     sender: TetraSender,
@@ -102,6 +103,7 @@ pub extern "C" fn tetra_send_sample(
 
 // Sends as many samples as the buffer has room for, re and im in turn, or up to the first that is refused. The first
 // is refused whatever the room is.
+#[tactic(auto, unfolding(crate::specs::Send::sender_in))]
 #[unsafe(no_mangle)]
 pub extern "C" fn tetra_send(
     sender: TetraSender,

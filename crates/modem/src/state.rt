@@ -135,6 +135,7 @@ pub extern "C" fn tetra_state_feed(
 
 // Takes the slot that waits: its views fill 510, 254 and 254 lent bytes. Or refuses, and everything stays as it is. The past
 // has no part in it.
+#[tactic(auto, using(crate::proofs::Receiving::taken, crate::proofs::Receiving::slot_or_empty))]
 #[unsafe(no_mangle)]
 pub extern "C" fn tetra_state_take(
     mut state: State,
@@ -157,6 +158,7 @@ pub extern "C" fn tetra_state_take(
 }
 
 // Takes the slot timing of another receiver. A receiver that finds its own is refused. The past has no part in it.
+#[tactic(auto, using(crate::proofs::Receiving::answered))]
 #[unsafe(no_mangle)]
 pub extern "C" fn tetra_state_follow(mut state: State, other: State) -> TetraAnswered
     ensures refusal { (re im abs re₂ im₂ abs₂ : List Float) → result.refusal ≡ reply_number (follow_outcome (receiver_of state re im abs) (receiver_of other re₂ im₂ abs₂)).reply }

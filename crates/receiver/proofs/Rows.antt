@@ -19,12 +19,6 @@ use Rattle.receiver.proofs.Feeding.{part, next_sample}
 
 -- ---- one more element
 
-written : (n : ℕ) (l : List Float) (x : Float) → n < length l → take (suc n) (set l n x) ≡ take n l ++ (x ∷ [])
-written zero [] x h = absurd (omega arith)
-written zero (a ∷ l) x h = refl
-written (suc n) [] x h = absurd (omega arith)
-written (suc n) (a ∷ l) x h = ap (λ (t : List Float). a ∷ t) (written n l x (omega arith))
-
 samples_snoc : (n : ℕ) (re im : List Float) (x y : Float) → n < length re → n < length im
     → samples_of (take (suc n) (set re n x)) (take (suc n) (set im n y)) ≡ samples_of (take n re) (take n im) ++ (record { re = x; im = y } ∷ [])
 unfolding samples_of

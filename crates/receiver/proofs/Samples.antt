@@ -1,7 +1,7 @@
 -- The tests and counts of a sample, over plain numbers. Assumes nothing.
 use mathlib.Core.Path.{◌≡◌, refl}
 use mathlib.Core.Bool.{Bool, true, false, cond, ◌||◌}
-use Prim.Native.Nat.{ℕ, zero, suc, ◌+◌, ◌-◌, ◌<◌, ◌≤◌, ◌^◌, min}
+use Prim.Native.Nat.{ℕ, zero, suc, ◌+◌, ◌-◌, ◌<◌, ◌≤◌, min}
 use native.Mathlib.Nat.{min-le_left}
 use native.Mathlib.Omega.{arith}
 use lib.Dec.{lit≤}
@@ -17,7 +17,7 @@ use Rattle.dsp_types.specs.Times.{fitted}
 use Rattle.slot_receiver.specs.Receiver.{Receiver, valid_count, process_sample, missing, feed_zeros}
 use Rattle.slot_receiver.specs.Calls.{sample_refusal}
 use Rattle.slot_receiver.specs.Bounds.{Counter}
-use Rattle.slot_receiver.proofs.Signed.{plus_is, wider, within_pos, counter_37}
+use Rattle.slot_receiver.proofs.Signed.{counter_37, plus_few}
 
 pub missing_least : (c n : ℤ) → up n + dn c ≤ up c + dn n → min (mag (c -ℤ n)) 1020 ≡ missing (c -ℤ n)
 unfolding missing
@@ -51,7 +51,7 @@ counter_before c left h n = at (c -ℤ pos left) (less c (pos left))
 
 -- the counter after one in its range is what it is in whole numbers
 pub next_counter_lem : (c : ℤ) → Counter c → fitted (c +ℤ pos 1) ≡ c +ℤ pos 1
-next_counter_lem c h = plus_is (wider (2 ^ 61) (lit≤ tt) (counter_37 h)) (within_pos {n = 1} (2 ^ 61) (lit≤ tt))
+next_counter_lem c h = plus_few 1 (lit≤ tt) (lit≤ tt) (counter_37 h)
 
 -- a counter in its range counts as it is
 pub counted : (c : ℤ) → Counter c → valid_count c ≡ c

@@ -10,6 +10,7 @@ use rx_slot::RxSlot;
 
 impl State {
     // Takes the slot that waits: its views fill 510, 254 and 254 lent bytes. Or refuses, and everything stays as it is.
+    #[tactic(auto, unfolding(crate::specs::View::receiver_of))]
     pub fn take_demodulated_slot(
         &mut self,
         slot: &mut [u8],
@@ -25,6 +26,7 @@ impl State {
     }
 
     // Takes the slot timing of another receiver. A receiver that finds its own is refused.
+    #[tactic(auto, unfolding(crate::specs::View::receiver_of))]
     pub fn sync_to_demodulator(&mut self, demod: &State) -> Result<(), Refusal>
         ensures answer { (re im abs re₂ im₂ abs₂ : List Float) → reply_of result ≡ (follow_outcome (receiver_of self.old re im abs) (receiver_of demod.now re₂ im₂ abs₂)).reply }
         ensures receiver { (re im abs re₂ im₂ abs₂ : List Float) → receiver_of self.new re im abs ≡ (follow_outcome (receiver_of self.old re im abs) (receiver_of demod.now re₂ im₂ abs₂)).receiver }

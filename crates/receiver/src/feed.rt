@@ -50,6 +50,7 @@ fn parts_of(samples: &[f32], at: usize, most: usize, re: &mut [f32], im: &mut [f
 
 impl State {
     // Samples that are only kept.
+    #[tactic(auto, unfolding(crate::specs::View::receiver_of, slot_receiver::specs::View::receiver_from, crate::specs::Keep::keep_all, slot_receiver::specs::Receiver::with_next, slot_receiver::specs::Receiver::with_signal))]
     fn keep_all(
         &mut self,
         re: &mut [f32; 2048],

@@ -25,6 +25,7 @@ fn missing_samples(next: SampleCount, counter: SampleCount) -> usize
 
 impl State {
     // Whether the sample handed a slot over.
+    #[tactic(auto, using(crate::proofs::Samples::counted), unfolding(crate::specs::View::receiver_of, slot_receiver::specs::View::receiver_from, listener::specs::View::signal_of, slot_receiver::specs::Receiver::process_sample, slot_receiver::specs::Receiver::listen, slot_receiver::specs::Receiver::with_signal, slot_receiver::specs::Windows::window_of))]
     fn process_sample(
         &mut self,
         re: &mut [f32; 2048],
@@ -65,6 +66,7 @@ impl State {
     }
 
     // A sample that is not refused, and whether it or a zero before it handed a slot over.
+    #[tactic(auto, using(crate::proofs::Handing::accept_hands, crate::proofs::Samples::next_counter_lem), unfolding(crate::specs::View::receiver_of, slot_receiver::specs::View::receiver_from, slot_receiver::specs::Receiver::accept, slot_receiver::specs::Receiver::with_next))]
     fn accept(
         &mut self,
         re: &mut [f32; 2048],
@@ -84,6 +86,7 @@ impl State {
     }
 
     // Takes one sample, and tells whether it or a zero before it handed a slot over; or refuses it and leaves state and past as they are.
+    #[tactic(auto, using(crate::proofs::Samples::not_refused), unfolding(crate::specs::View::receiver_of, slot_receiver::specs::View::receiver_from))]
     pub(crate) fn hear(
         &mut self,
         re: &mut [f32; 2048],

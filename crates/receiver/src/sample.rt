@@ -15,6 +15,7 @@ use slot_receiver::{Mode, SlotReceiver};
 
 impl State {
     // Its past is all zeros.
+    #[tactic(auto, unfolding(crate::specs::View::receiver_of, slot_receiver::specs::View::receiver_from))]
     pub fn new(initial_mode: Mode) -> State
         ensures receiver { receiver_of result (replicate 2048 zero_f) (replicate 2048 zero_f) (replicate 2048 zero_f) ≡ new initial_mode }
         ensures mode { result.slots.mode ≡ mode_number initial_mode }
@@ -38,6 +39,7 @@ impl State {
     }
 
     // A sample that is only kept.
+    #[tactic(auto, unfolding(crate::specs::View::receiver_of, slot_receiver::specs::View::receiver_from, slot_receiver::specs::Receiver::listen, slot_receiver::specs::Receiver::with_next, slot_receiver::specs::Receiver::with_signal))]
     fn keep(
         &mut self,
         re: &mut [f32; 2048],

@@ -19,6 +19,7 @@ fn slot_when(mode: Mode, other: TdmaTime, own: TdmaTime) -> TdmaTime
 }
 
 // Idle while the other searches, uplink once it is locked.
+#[tactic(auto, using(slot_receiver::proofs::Views::mode_stored), unfolding(slot_receiver::specs::Calls::following, slot_receiver::specs::View::receiver_from, slot_receiver::specs::View::mode_following, slot_receiver::specs::Receiver::with_mode, slot_receiver::specs::Receiver::with_clock))]
 fn follow(slots: &mut SlotReceiver, demod: &SlotReceiver)
     ensures receiver { (next next₂ : ℤ) (s s₂ : Signal) → receiver_from slots.new next s ≡ following (mode_of demod.now.mode) (receiver_from slots.old next s) (receiver_from demod.now next₂ s₂) }
     ensures mode { slots.new.mode ≡ mode_following (mode_of demod.now.mode) slots.old.mode }
@@ -39,6 +40,7 @@ fn follow(slots: &mut SlotReceiver, demod: &SlotReceiver)
 }
 
 // Takes the slot timing of another receiver. A receiver that finds its own is refused.
+#[tactic(auto, unfolding(slot_receiver::specs::Calls::follow_outcome, slot_receiver::specs::Calls::follow_refusal, slot_receiver::specs::Calls::unless, slot_receiver::specs::Calls::followed, slot_receiver::specs::Calls::reply_of, slot_receiver::specs::View::receiver_from))]
 pub fn sync_to_demodulator(slots: &mut SlotReceiver, demod: &SlotReceiver) -> Result<(), Refusal>
     ensures answer { (next next₂ : ℤ) (s s₂ : Signal) → reply_of result ≡ (follow_outcome (receiver_from slots.old next s) (receiver_from demod.now next₂ s₂)).reply }
     ensures receiver { (next next₂ : ℤ) (s s₂ : Signal) → receiver_from slots.new next s ≡ (follow_outcome (receiver_from slots.old next s) (receiver_from demod.now next₂ s₂)).receiver }

@@ -4,7 +4,7 @@ use mathlib.Core.Path.{◌≡◌, refl, sym, ap, ◌∙◌}
 use mathlib.Core.Bool.{Bool, true, false, not}
 use mathlib.Core.List.{List, [], ◌∷◌, ◌++◌, append_assoc, append-nil}
 use native.Mathlib.Omega.{arith}
-use lib.IntN.{ℤ, pos, ◌+ℤ◌}
+use lib.IntN.{ℤ, pos, ◌+ℤ◌, +ℤ_idr}
 use lib.ListN.{length, take, drop, length-take}
 use lib.Seq.{drop-drop, take-nil, take_all}
 use Rattle.dsp_types.proofs.RingLaws.{le_or_lt}
@@ -22,7 +22,7 @@ use Rattle.slot_lines.specs.Blocks.{line_of, hear_one, Step, stretch_of, stretch
 use Rattle.slot_lines.specs.Links.{down_style, up_style, follow_if, begins_if, still_begins, shown_of, is_shown, UpPrinted, up_printed, both_printed, Both, rest_printed, BothStep, lead_step, catch_up_step, step_by, both_step, both_of, both_made}
 use Rattle.slot_lines.specs.declared.links.Links.{Links}
 use Rattle.slot_lines.specs.declared.links.LinksHeard.{LinksHeard}
-use Rattle.slot_lines.proofs.Steps.{counts, counts_none, First, on, ends, first, step_goes, samples_count}
+use Rattle.slot_lines.proofs.Steps.{counts, First, on, ends, first, step_goes, samples_count}
 
 counts_both : (c : ℤ) (t n : ℕ) → t ≤ n → (c +ℤ pos t) +ℤ pos (n - t) ≡ c +ℤ pos n
 counts_both c t n h = same ((c +ℤ pos t) +ℤ pos (n - t)) (c +ℤ pos n) (omega (arith, sum (c +ℤ pos t) (pos (n - t)), sum c (pos t), sum c (pos n)))
@@ -84,7 +84,7 @@ module _ (form : Form) (has_bits : Bool) where
       → let b : Both = record { down = down; up = up; begins = begins; behind = 0; slot = slot; line = line } in let s = lead_step form has_bits b xs c in
       rest_printed form has_bits b xs ys c ≡ line ++ rest_printed form has_bits s.both xs ys (c +ℤ pos 0)
   unfolding lead_step rest_printed up_printed
-  led_whole down up begins slot line xs ys c e = rw (counts_none c) (ap (λ (l : List ℕ). line ++ l) (both_led down (follow_if slot up down) (begins_if slot up c begins) xs ys c e))
+  led_whole down up begins slot line xs ys c e = rw (+ℤ_idr c) (ap (λ (l : List ℕ). line ++ l) (both_led down (follow_if slot up down) (begins_if slot up c begins) xs ys c e))
 
   -- the uplink comes after it: a step of its own, which is what it prints first
   caught_up : (down up : Receiver) (begins : Bool) (n : ℕ) (slot : Bool) (line : List ℕ) (xs ys : List ComplexSample) (c : ℤ) (s : Step)

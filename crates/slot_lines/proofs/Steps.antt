@@ -8,7 +8,7 @@ use native.Mathlib.Nat.{min-eq_left, le-min}
 use native.Mathlib.Numerals.{add-one}
 use borrow.Author.Tests.{lt-ltb}
 use native.Mathlib.Omega.{arith}
-use lib.IntN.{ℤ, pos, negsuc, ◌+ℤ◌}
+use lib.IntN.{ℤ, pos, negsuc, ◌+ℤ◌, +ℤ_idr}
 use lib.ListN.{length}
 use lib.Signed.{lt_z}
 use lib.Ieee.{Float}
@@ -80,9 +80,6 @@ lost r x c n e = go (beyond x.re || beyond x.im) e
 pub counts : (c : ℤ) (n : ℕ) → (c +ℤ pos 1) +ℤ pos n ≡ c +ℤ pos (suc n)
 counts c n = same ((c +ℤ pos 1) +ℤ pos n) (c +ℤ pos (suc n)) (omega (arith, sum (c +ℤ pos 1) (pos n), sum c (pos 1), sum c (pos (suc n))))
 
-pub counts_none : (c : ℤ) → c +ℤ pos 0 ≡ c
-counts_none c = same (c +ℤ pos 0) c (omega (arith, sum c (pos 0)))
-
 -- so many of n samples are done with: not more than there are, and one at least
 abbrev Goes : ℕ → ℕ → Type 0
 Goes taken n = (taken ≤ n) × (0 < n → 0 < taken)
@@ -152,7 +149,7 @@ module _ (style : Style) where
 
     first_lost : (n : ℕ) → refusal r x c ≡ suc n → First r x xs c
     unfolding step_of stretch_of stretch_by mended_by hear_one
-    first_lost n e = ends (suc n) (rw (fed_lost n e, counts_none c, zero_heard r c, lost r x c n e))
+    first_lost n e = ends (suc n) (rw (fed_lost n e, +ℤ_idr c, zero_heard r c, lost r x c n e))
 
     pub first : First r x xs c
     first = go (refusal r x c) refl

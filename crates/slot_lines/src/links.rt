@@ -33,6 +33,7 @@ pub struct LinksHeard {
 }
 
 // The first n samples, or all where there are fewer.
+#[tactic(auto, using(crate::proofs::Both::first_few))]
 pub fn first_samples(samples: &[f32], n: usize) -> &[f32]
     ensures { interleaved result.now ≡ take n (interleaved samples.now) }
 {
@@ -75,6 +76,7 @@ impl Links {
     }
 
     // The downlink leads: up to a slot, or to a refused sample.
+    #[tactic(auto, using(crate::proofs::Both::led_made), unfolding(crate::specs::Blocks::step_made, crate::specs::Links::down_style, crate::specs::Links::both_of, crate::specs::Links::both_made))]
     fn lead(
         &mut self,
         re: &mut [f32; 2048],

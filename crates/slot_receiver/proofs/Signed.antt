@@ -2,7 +2,7 @@
 use mathlib.Core.Path.{◌≡◌}
 use Prim.Native.Nat.{ℕ, ◌+◌, ◌-◌, ◌/◌, ◌<◌, ◌≤◌, ◌^◌}
 use native.Mathlib.Omega.{arith}
-use lib.IntN.{ℤ, pos, negsuc, neg_ℤ, ◌+ℤ◌, ◌-ℤ◌, +ℤ_idl}
+use lib.IntN.{ℤ, pos, negsuc, neg_ℤ, ◌+ℤ◌, ◌-ℤ◌}
 use lib.Dec.{lit≤}
 use Rattle.slot_receiver.specs.declared.Mode.{Mode}
 use Rattle.slot_receiver.specs.declared.Mode.TheVariants.{Idle, DlUnsynchronized, Dl, Ul}
@@ -61,6 +61,13 @@ wider n l h = record { high = omega (arith, l, h); low = omega (arith, l, h) }
 pub within_pos : {n : ℕ} (m : ℕ) → n ≤ m → Within m (pos n)
 within_pos m h = record { high = h; low = omega arith }
 
+-- so few more, or less, than a number within bounds
+pub plus_few : {m : ℕ} (n : ℕ) {z : ℤ} → m ≤ 2 ^ 61 → n ≤ 2 ^ 61 → Within m z → fitted (z +ℤ pos n) ≡ z +ℤ pos n
+plus_few n l k h = plus_is (wider (2 ^ 61) l h) (within_pos (2 ^ 61) k)
+
+pub minus_few : {m : ℕ} (n : ℕ) {z : ℤ} → m ≤ 2 ^ 61 → n ≤ 2 ^ 61 → Within m z → fitted (z -ℤ pos n) ≡ z -ℤ pos n
+minus_few n l k h = minus_is (wider (2 ^ 61) l h) (within_pos (2 ^ 61) k)
+
 pub within_sum : {a b : ℕ} (x y : ℤ) → Within a x → Within b y → Within (a + b) (x +ℤ y)
 within_sum x y h k = bounded (x +ℤ y) (up x + up y) (dn x + dn y) (omega (arith, sum x y)) (omega (arith, h, k)) (omega (arith, h, k))
 
@@ -78,9 +85,6 @@ ready_within Dl = within_pos 1020 (lit≤ tt)
 ready_within Ul = within_pos 1020 (lit≤ tt)
 
 -- ---- skipped slots
-
-pub from_zero : (z : ℤ) → pos 0 -ℤ z ≡ neg_ℤ z
-from_zero z = +ℤ_idl (neg_ℤ z)
 
 pub negated_fits : (z : ℤ) → Within (2 ^ 61) z → SFits w64 (pos 0 -ℤ z)
 negated_fits z h = difference_fits (pos 0) z (within_pos (2 ^ 61) (lit≤ tt)) h

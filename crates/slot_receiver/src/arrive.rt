@@ -16,6 +16,7 @@ use crate::valid::valid_count;
 use dsp_types::SampleCount;
 
 impl SlotReceiver {
+    #[tactic(auto, unfolding(crate::specs::View::receiver_from, crate::specs::Receiver::skipped, crate::specs::Receiver::tdiff))]
     fn skip_passed(&mut self, counter: SampleCount)
         requires { Timed (clock_of self.old) self.old.slots_since_last_valid_burst × Counter counter.0 }
         ensures { (next : ℤ) (s : Signal) → receiver_from self.new next s ≡ skipped (receiver_from self.old next s) counter.0 }

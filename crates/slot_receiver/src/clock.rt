@@ -71,6 +71,7 @@ fn slots_to_skip(t: i64) -> i32
 }
 
 impl SlotReceiver {
+    #[tactic(auto, unfolding(crate::specs::View::receiver_from, crate::specs::Receiver::with_clock, crate::specs::Receiver::set_slot))]
     pub(crate) fn set_slot(&mut self, slot: TdmaTime)
         requires { Within (2 ^ 40) self.old.reference_time.0 × (slot.0 < slots) }
         ensures { (next : ℤ) (s : Signal) → receiver_from self.new next s ≡ with_clock (receiver_from self.old next s) (set_slot (mode_of self.old.mode) self.old.reference_time.0 slot.0) }
@@ -79,6 +80,7 @@ impl SlotReceiver {
         self.slot_ready_time = ready_time(self.mode(), self.reference_time, slot);
     }
 
+    #[tactic(auto, using(dsp_types::proofs::Laws::slot_below), unfolding(crate::specs::Receiver::add_slots))]
     pub(crate) fn add_slots(&mut self, count: i32)
         requires { Within (2 ^ 40) self.old.reference_time.0 × (self.old.current_slot.0 < slots) }
         ensures { (next : ℤ) (s : Signal) → receiver_from self.new next s ≡ with_clock (receiver_from self.old next s) (add_slots (mode_of self.old.mode) (clock_of self.old) count) }
@@ -87,6 +89,7 @@ impl SlotReceiver {
     }
 
     // Finds the next slot that is not past where the ready time is far off.
+    #[tactic(auto, unfolding(crate::specs::View::receiver_from, crate::specs::Receiver::skip_if))]
     pub(crate) fn skip_slots(&mut self, t: i64)
         requires { Within (2 ^ 40) self.old.reference_time.0 × (self.old.current_slot.0 < slots) × Within (2 ^ 41 - 2 ^ 34) t }
         ensures { (next : ℤ) (s : Signal) → receiver_from self.new next s ≡ skip_if (far t) t (receiver_from self.old next s) }

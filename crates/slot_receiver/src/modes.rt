@@ -16,6 +16,7 @@ impl Mode {
     }
 
     // Whether its windows hand slots over.
+    #[tactic(auto, using(crate::proofs::Handing::search_hands_none), unfolding(crate::specs::Windows::is_slot, crate::specs::Windows::kind_of))]
     pub(crate) fn hands_over(self) -> bool
         ensures { (r : Receiver) → result ≡ is_slot (kind_of self r) }
     {

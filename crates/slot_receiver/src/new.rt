@@ -10,6 +10,7 @@ use dsp_types::{SampleCount, TdmaTime};
 use rx_slot::{RxSlot, no_burst};
 
 impl SlotReceiver {
+    #[tactic(auto, using(crate::proofs::Views::mode_stored, rx_slot::proofs::Laws::no_stored), unfolding(crate::specs::View::receiver_from, crate::specs::Receiver::new, crate::specs::Receiver::set_slot, rx_slot::specs::Slots::no_slot))]
     pub fn new(initial_mode: Mode) -> SlotReceiver
         ensures receiver { receiver_from result (pos 0) unheard ≡ new initial_mode }
         ensures mode { result.mode ≡ mode_number initial_mode }

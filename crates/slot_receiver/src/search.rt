@@ -38,6 +38,7 @@ pub(crate) fn averaged(error: f32, symbol_timing: f32) -> f32
 
 impl SlotReceiver {
     // The slot that was handed over last has this number, and no burst is in the whole of it.
+    #[tactic(auto, using(rx_slot::proofs::Laws::no_stored), unfolding(crate::specs::View::receiver_from, crate::specs::Receiver::with_slot, crate::specs::Receiver::emptied, rx_slot::specs::Slots::with_views))]
     fn empty(&mut self, time: TdmaTime)
         ensures { (next : ℤ) (s : Signal) → receiver_from self.new next s ≡ with_slot (receiver_from self.old next s) (emptied (receiver_from self.old next s).slot time.0) }
     {

@@ -18,6 +18,7 @@ pub(crate) const FAR_READY: u64 = 1_099_511_627_775;
 
 const LAST_NEXT: i64 = LAST_COUNTER + 1;
 
+#[tactic(auto, unfolding(crate::specs::Receiver::valid_time))]
 pub(crate) fn valid_time(t: SampleCount, most: u64) -> SampleCount
     ensures { result.0 ≡ valid_time most t.0 }
 {
@@ -49,6 +50,7 @@ pub fn valid_count(count: SampleCount) -> SampleCount
 
 impl SlotReceiver {
     // The numbers that a sample works with.
+    #[tactic(auto, using(crate::proofs::Doors::valid_as), unfolding(crate::specs::View::receiver_from, crate::specs::Receiver::with_clock, crate::specs::Receiver::with_lock))]
     pub(crate) fn make_valid(&mut self)
         ensures { (next : ℤ) (s : Signal) → receiver_from self.new next s ≡ valid (receiver_from self.old next s) }
     {

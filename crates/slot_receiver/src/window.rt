@@ -76,6 +76,7 @@ impl SlotReceiver {
         self.demodulated_slot_available = true;
     }
 
+    #[tactic(auto, unfolding(crate::specs::View::receiver_from, crate::specs::Receiver::process_past_samples, crate::specs::Receiver::processed))]
     fn process_past_samples<'a>(
         &mut self,
         re: &'a [f32; 2048],
@@ -127,6 +128,7 @@ impl SlotReceiver {
     }
 
     // A window closes: it is read, and the next one is set.
+    #[tactic(auto, unfolding(crate::specs::View::receiver_from, crate::specs::Receiver::close_window))]
     pub(crate) fn close_window<'a>(
         &mut self,
         re: &'a [f32; 2048],

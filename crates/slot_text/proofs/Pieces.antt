@@ -1,11 +1,16 @@
 -- The pieces of a line, one behind the other, are its fields. Assumes nothing.
 use Prim.Native.Nat.{ℕ}
-use mathlib.Core.Path.{◌≡◌, refl, ap}
+use mathlib.Core.Path.{◌≡◌, refl, ap, ◌∙◌}
 use mathlib.Core.List.{List, [], ◌∷◌, ◌++◌, append_assoc, append-nil}
-use Rattle.text.specs.Text.{ascii, decimal}
+use Rattle.text.specs.Text.{cut, ascii, decimal}
+use Rattle.text.proofs.Cutting.{onto}
 use Rattle.slot_text.specs.declared.Form.{Form}
 use Rattle.slot_text.specs.declared.Form.TheVariants.{Plain, Json}
 use Rattle.slot_text.specs.Fields.{Field, number_field, word_field, by_form, quote, equals, separator, opening, closing, quoted, value_text, field_text, fields_text, field_line}
+
+-- a piece behind what stands behind t, where both come to d
+pub pieces : {u v d : List ℕ} (t a b : List ℕ) → u ≡ cut (t ++ a) → v ≡ cut (u ++ b) → a ++ b ≡ d → v ≡ cut (t ++ d)
+pieces t a b e f g = onto t a b e f ∙ ap (λ (l : List ℕ). cut (t ++ l)) g
 
 pub name_piece : (form : Form) (p n : List ℕ) → ((quote form ++ p) ++ n) ++ by_form form (ascii "=") (ascii "\":") ≡ quoted form (p ++ n) ++ equals form
 unfolding by_form quoted ascii
@@ -22,6 +27,11 @@ number_piece form name n = append_assoc (quoted form name) (equals form) (decima
 pub word_piece : (form : Form) (name w : List ℕ) → ((separator form ++ (quoted form name ++ equals form ++ quote form)) ++ w) ++ quote form ≡ fields_text form (word_field name w ∷ [])
 unfolding fields_text field_text value_text quoted
 word_piece form name w = simp (append_assoc, append-nil)
+
+-- a word behind what leads up to it
+pub worded : {u v w : List ℕ} (form : Form) (t name word : List ℕ) → u ≡ cut (t ++ (separator form ++ (quoted form name ++ equals form ++ quote form))) → v ≡ cut (u ++ word)
+    → w ≡ cut (v ++ quote form) → w ≡ cut (t ++ fields_text form (word_field name word ∷ []))
+worded form t name word e f g = pieces t _ _ (onto t _ _ e f) g (word_piece form name word)
 
 pub next_piece : (form : Form) (f : Field) → separator form ++ field_text form f ≡ fields_text form (f ∷ [])
 unfolding fields_text

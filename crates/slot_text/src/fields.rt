@@ -42,6 +42,7 @@ impl Form {
     }
 
     // With the field of a number.
+    #[tactic(auto, using(text::proofs::Cutting::onto, crate::proofs::Pieces::pieces, crate::proofs::Pieces::number_piece))]
     pub(crate) fn with_number(self, text: Text, prefix: &[u8], name: &[u8], n: u64) -> Text
         ensures { result ≡ cut (text ++ field_text self (number_field (prefix.now ++ name.now) n)) }
     {
@@ -49,6 +50,7 @@ impl Form {
     }
 
     // With the next field, that of a number.
+    #[tactic(auto, using(text::proofs::Cutting::onto, crate::proofs::Pieces::pieces, crate::proofs::Pieces::next_piece), unfolding(text::specs::Text::ascii))]
     pub(crate) fn with_next_number(self, text: Text, prefix: &[u8], name: &[u8], n: u64) -> Text
         ensures { result ≡ cut (text ++ fields_text self (number_field (prefix.now ++ name.now) n ∷ [])) }
     {
@@ -56,6 +58,7 @@ impl Form {
     }
 
     // With the next field up to its word; the word follows, and the quotation mark behind it.
+    #[tactic(auto, using(text::proofs::Cutting::onto, crate::proofs::Pieces::lead_piece), unfolding(text::specs::Text::ascii))]
     pub(crate) fn up_to_word(self, text: Text, prefix: &[u8], name: &[u8]) -> Text
         ensures { result ≡ cut (text ++ (separator self ++ (quoted self (prefix.now ++ name.now) ++ equals self ++ quote self))) }
     {
@@ -63,6 +66,7 @@ impl Form {
     }
 
     // With the next field, whose value is a word.
+    #[tactic(auto, using(crate::proofs::Pieces::worded))]
     pub(crate) fn with_word(self, text: Text, name: &[u8], word: &[u8]) -> Text
         ensures { result ≡ cut (text ++ fields_text self (word_field name.now word.now ∷ [])) }
     {
@@ -70,6 +74,7 @@ impl Form {
     }
 
     // With the next field, a burst type's name.
+    #[tactic(auto, using(crate::proofs::Pieces::worded), unfolding(text::specs::Text::ascii))]
     pub(crate) fn with_type(self, text: Text, prefix: &[u8], train_type: u8) -> Text
         ensures { result ≡ cut (text ++ fields_text self (word_field (prefix.now ++ ascii "type") (type_name train_type) ∷ [])) }
     {

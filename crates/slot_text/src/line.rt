@@ -27,6 +27,7 @@ impl Style {
         }
     }
 
+    #[tactic(auto, using(crate::proofs::Pieces::worded), unfolding(crate::specs::Lines::bits_fields, crate::specs::Fields::fields_text, text::specs::Text::ascii))]
     fn with_bits(self, text: Text, prefix: &[u8], bits: &[u8]) -> Text
         ensures { result ≡ cut (text ++ fields_text self.form (bits_fields self.has_bits prefix.now bits.now)) }
     {
@@ -54,6 +55,7 @@ impl Style {
     }
 
     // With the bursts of an uplink slot's halves.
+    #[tactic(auto, using(text::proofs::Cutting::onto, crate::proofs::Pieces::pieces, crate::proofs::Pieces::fields_append), unfolding(crate::specs::Lines::half_fields, crate::specs::Fields::fields_text, text::specs::Text::ascii))]
     fn with_halves(self, text: Text, first: Burst, second: Burst) -> Text
         ensures { result ≡ cut (text ++ fields_text self.form (half_fields self.has_bits self.link (burst_read first.entry.told first.entry.bits.now) (burst_read second.entry.told second.entry.bits.now))) }
     {

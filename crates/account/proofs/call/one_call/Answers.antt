@@ -1,5 +1,5 @@
 -- Call by call.
-use Rattle.std.proofs.Common.{refl, arith}
+use Rattle.std.proofs.Common.{refl}
 use Rattle.account.specs.Runs.{call_of}
 use Rattle.account.proofs.Running.{samples, follows}
 use Rattle.account.proofs.call.one_call.Goals as goal

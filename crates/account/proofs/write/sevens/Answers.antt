@@ -1,5 +1,5 @@
 -- Sevens in the place of zeros.
-use Rattle.std.proofs.Common.{◌≡◌, ◌≤◌, ℕ, List, length, replicate, drop, min, ◌++◌, arith, rules, sym, ap, ◌∙◌}
+use Rattle.std.proofs.Common.{◌≡◌, replicate, arith}
 use Rattle.std.proofs.lemmas.Grind.{common_steps}
 use Rattle.account.specs.Runs.{lent_bytes}
 use Rattle.account.proofs.Rows.{sevens_lem}

@@ -1,5 +1,5 @@
 -- A refusal changes nothing, and three views fill the slices.
-use Rattle.std.proofs.Common.{rules, ◌≡◌, sym, ap, ◌∙◌, ℕ, ◌≤◌, List, [], ◌∷◌, length, take, length-take-le, ℤ, arith}
+use Rattle.std.proofs.Common.{rules, ◌≡◌, sym, ap, ◌∙◌, ℕ, ◌≤◌, List, [], ◌∷◌, length, take, ℤ, arith}
 use Rattle.std.proofs.lemmas.Result.{err_from_is_err_and}
 use Rattle.dsp_types.specs.Answers.{number_of}
 use Rattle.dsp_types.specs.Refusals.{wrong_length}
@@ -50,9 +50,6 @@ viewed_all bits b e = rw e
 padded_as : {n k : ℕ} {v w : BurstView} → n ≡ k → v ≡ w → padded n v.bits ≡ padded k w.bits
 padded_as e f = rw (e, f)
 
-front : (bits : List ℕ) → length bits ≡ 510 → 254 ≡ length (take 254 bits)
-front bits e = sym (length-take-le 254 bits (omega (arith, e)))
-
 pub returns-in_err-take_refusal-clause-answer : goal.returns-in_err-take_refusal-clause-answer
 unfolding take_reply_of in_numbers
 returns-in_err-take_refusal-clause-answer c = λ next signal.
@@ -67,12 +64,6 @@ returns-in_err-take_refusal-clause-receiver c = λ next signal.
 pub returns-in_err-take_refusal-clause-lent : goal.returns-in_err-take_refusal-clause-lent
 returns-in_err-take_refusal-clause-lent c = λ next signal.
     sym (ap (λ (o : Outcome). o.lent) (refused (goal.at.returns-in_err-take_refusal-clause-lent c).In_err-take_refusal next signal))
-
-pub slice_bounds-take_burst-end-2 : goal.slice_bounds-take_burst-end-2
-slice_bounds-take_burst-end-2 c = front c.args.slots.now.subslot1_bits (stored (goal.at.slice_bounds-take_burst-end-2 c).Start).1
-
-pub slice_bounds-take_burst-end-3 : goal.slice_bounds-take_burst-end-3
-slice_bounds-take_burst-end-3 c = front c.args.slots.now.subslot2_bits (stored (goal.at.slice_bounds-take_burst-end-3 c).Start).2
 
 pub returns-clause-answer : goal.returns-clause-answer
 unfolding take_reply_of in_numbers taken receiver_from

@@ -1,17 +1,17 @@
 -- By the test.
-use Rattle.std.proofs.Common.{◌≡◌, sym, ◌∙◌, ◌^◌, ◌-ℤ◌, pos, lit≤}
+use Rattle.std.proofs.Common.{◌≡◌, sym, ◌∙◌, ◌-ℤ◌, pos, lit≤}
 use Rattle.dsp_types.specs.Ints.{eq_z}
 use Rattle.listener.specs.View.{signal_from}
 use Rattle.slot_receiver.specs.Receiver.{closes, close_if, close_window}
 use Rattle.slot_receiver.specs.View.{clock_of, receiver_from}
-use Rattle.slot_receiver.proofs.Signed.{minus_is, wider, within_pos, counter_37}
+use Rattle.slot_receiver.proofs.Signed.{counter_37, minus_few}
 use Rattle.slot_receiver.proofs.Times.{closing}
 use Rattle.slot_receiver.proofs.Handing.{hands_closed, hands_none}
 use Rattle.slot_receiver.proofs.SlotReceiver.close_if_ready.Goals as goal
 use Rattle.slot_receiver.proofs.SlotReceiver.close_if_ready.Goals.{After-closes}
 
 tested : (c : After-closes) → eq_z (c.args.counter.0 -ℤ pos 16) c.args.self.now.slot_ready_time.0 ≡ c.closes.result
-tested c = sym (rw (c.closes.ensures, minus_is (wider (2 ^ 61) (lit≤ tt) (counter_37 c.requires.1)) (within_pos {n = 16} (2 ^ 61) (lit≤ tt))))
+tested c = sym (rw (c.closes.ensures, minus_few 16 (lit≤ tt) (lit≤ tt) (counter_37 c.requires.1)))
 
 pub close_window-requires : goal.close_window-requires
 close_window-requires c =

@@ -1,7 +1,7 @@
 -- By its two parts.
-use Rattle.std.proofs.Common.{sym, ap, subst, ◌∙◌, [], pos}
+use Rattle.std.proofs.Common.{sym, subst, [], pos}
 use Rattle.listener.specs.View.{signal_from}
-use Rattle.slot_receiver.specs.Receiver.{Receiver, schedule, close_window}
+use Rattle.slot_receiver.specs.Receiver.{Receiver}
 use Rattle.slot_receiver.specs.Bounds.{Scheduled}
 use Rattle.slot_receiver.specs.View.{receiver_from}
 use Rattle.slot_receiver.proofs.Times.{processed_scheduled}
@@ -13,10 +13,3 @@ schedule-requires c =
     let a = c.args in
     let r = receiver_from a.self.now (pos 0) (signal_from [] a.re.now a.im.now a.abs.now a.index) in
     subst (λ (q : Receiver). Scheduled q.clock) (sym (c.process_past_samples.ensures (pos 0) [])) (processed_scheduled r a.counter.0 c.requires)
-
-pub returns : goal.returns
-unfolding close_window receiver_from
-returns c = λ next inputs.
-    let a = c.args in
-    c.schedule.ensures next (signal_from inputs a.re.now a.im.now a.abs.now a.index)
-    ∙ ap (λ (r : Receiver). schedule r.mode r) (c.process_past_samples.ensures next inputs)

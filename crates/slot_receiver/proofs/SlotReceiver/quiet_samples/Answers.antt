@@ -4,7 +4,7 @@ use Rattle.std.specs.Int.Signed.{lt_z}
 use Rattle.slot_receiver.specs.Quiet.{stands, until_close, last_quiet}
 use Rattle.slot_receiver.specs.Bounds.{Within}
 use Rattle.slot_receiver.specs.View.{clock_of}
-use Rattle.slot_receiver.proofs.Signed.{read, plus_is, minus_is, wider, within_pos, within_sum}
+use Rattle.slot_receiver.proofs.Signed.{read, minus_is, wider, within_pos, within_sum, plus_few}
 use Rattle.slot_receiver.proofs.Keeping.{Between, between, stands_as, quiet_invalid, quiet_late, quiet_none, quiet_some}
 use Rattle.slot_receiver.proofs.SlotReceiver.quiet_samples.Goals as goal
 use Rattle.slot_receiver.proofs.SlotReceiver.quiet_samples.Goals.{Else-not-stands, Else-is_outside, After-since-left}
@@ -33,7 +33,7 @@ unfolding until_close
 left c s n =
     let w = (stands_as (clock_of c.args.self.now) _ s).ready in
     let r = within_sum _ _ w (within_pos {n = 16} 16 (lit≤ tt)) in
-    rw (c.since-left.ensures, c.plus.ensures, plus_is (wider (2 ^ 61) (lit≤ tt) w) (within_pos {n = 16} (2 ^ 61) (lit≤ tt)))
+    rw (c.since-left.ensures, c.plus.ensures, plus_few 16 (lit≤ tt) (lit≤ tt) w)
     (minus_is (wider (2 ^ 61) (lit≤ tt) r) n)
 
 pub returns-then-not-stands : goal.returns-then-not-stands

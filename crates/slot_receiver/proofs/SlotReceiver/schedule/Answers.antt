@@ -1,11 +1,11 @@
 -- By the mode.
-use Rattle.std.proofs.Common.{◌≡◌, sym, ap, subst, ◌∙◌, ◌^◌, pos, lit≤}
+use Rattle.std.proofs.Common.{◌≡◌, sym, ap, subst, ◌∙◌, pos, lit≤}
 use Rattle.listener.specs.Signal.{unheard}
 use Rattle.slot_receiver.specs.declared.Mode.{Mode}
 use Rattle.slot_receiver.specs.declared.Mode.TheVariants.{Idle, DlUnsynchronized, Dl, Ul}
 use Rattle.slot_receiver.specs.Receiver.{Receiver, with_clock, search_on, next_slot, schedule}
 use Rattle.slot_receiver.specs.View.{clock_of, receiver_from}
-use Rattle.slot_receiver.proofs.Signed.{plus_is, wider, within_pos}
+use Rattle.slot_receiver.proofs.Signed.{plus_few}
 use Rattle.slot_receiver.proofs.Times.{Tracked, tracked_near}
 use Rattle.slot_receiver.proofs.Views.{searched_on}
 use Rattle.slot_receiver.proofs.SlotReceiver.schedule.Goals as goal
@@ -28,7 +28,7 @@ pub returns-in-DlUnsynchronized : goal.returns-in-DlUnsynchronized
 unfolding receiver_from schedule with_clock search_on
 returns-in-DlUnsynchronized c = λ next s.
     let r = receiver_from c.args.self.now next s in
-    searched_on r c.plus-self.result.0 (c.plus-self.ensures ∙ plus_is (wider (2 ^ 61) (lit≤ tt) c.requires.ready) (within_pos {n = 400} (2 ^ 61) (lit≤ tt)))
+    searched_on r c.plus-self.result.0 (c.plus-self.ensures ∙ plus_few 400 (lit≤ tt) (lit≤ tt) c.requires.ready)
     ∙ by_mode r DlUnsynchronized (sym c.mode.ensures ∙ c.in-DlUnsynchronized.is)
 
 pub returns-in-Dl : goal.returns-in-Dl

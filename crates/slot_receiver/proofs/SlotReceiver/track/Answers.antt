@@ -8,7 +8,7 @@ use Rattle.slot_receiver.specs.declared.SlotReceiver.{SlotReceiver}
 use Rattle.slot_receiver.specs.Receiver.{Receiver, with_clock, with_lock}
 use Rattle.slot_receiver.specs.Bounds.{Within}
 use Rattle.slot_receiver.specs.View.{receiver_from}
-use Rattle.slot_receiver.proofs.Signed.{plus_is, minus_is, wider, within_pos, within_sum}
+use Rattle.slot_receiver.proofs.Signed.{minus_is, wider, within_pos, within_sum, plus_few}
 use Rattle.slot_receiver.proofs.Views.{shifted, lowered, shifted_later, not_later, shifted_sooner, not_sooner}
 use Rattle.slot_receiver.proofs.SlotReceiver.track.Goals as goal
 use Rattle.slot_receiver.proofs.SlotReceiver.track.Goals.{Joined-self, then-self, else-self}
@@ -20,7 +20,7 @@ after_first c next s =
     let r = receiver_from c.args.self.now next s in
     elim c.if-self.branch [
       | then-self w ↦ ap (λ (x : SlotReceiver). receiver_from x next s) w.self-is
-          ∙ shifted_later r _ w.if-self.true (w.plus-self.ensures ∙ plus_is (wider (2 ^ 61) (lit≤ tt) c.requires.reference) (within_pos {n = 1} (2 ^ 61) (lit≤ tt)))
+          ∙ shifted_later r _ w.if-self.true (w.plus-self.ensures ∙ plus_few 1 (lit≤ tt) (lit≤ tt) c.requires.reference)
       | else-self w ↦ ap (λ (x : SlotReceiver). receiver_from x next s) w.self-is ∙ not_later r w.if-self.false
     ]
 

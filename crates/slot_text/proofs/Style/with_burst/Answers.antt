@@ -1,8 +1,8 @@
 -- Three fields, one behind the other.
-use Rattle.std.proofs.Common.{ℕ, List, [], ◌∷◌, ◌++◌, ap, ◌∙◌}
-use Rattle.text.specs.Text.{cut, ascii}
+use Rattle.std.proofs.Common.{[], ◌∷◌}
+use Rattle.text.specs.Text.{ascii}
 use Rattle.text.proofs.Cutting.{onto}
-use Rattle.slot_text.proofs.Pieces.{fields_append}
+use Rattle.slot_text.proofs.Pieces.{pieces, fields_append}
 use Rattle.slot_text.specs.Lines.{burst_fields, burst_read}
 use Rattle.slot_text.proofs.Style.with_burst.Goals as goal
 
@@ -11,5 +11,4 @@ unfolding burst_fields burst_read ascii
 returns c =
     let t = c.args.text in
     let f = c.args.self.form in
-    onto t _ _ (onto t _ _ c.with_type-typed.ensures c.with_next_number-judged.ensures) c.with_bits.ensures
-    ∙ ap (λ (l : List ℕ). cut (t ++ l)) (rw (fields_append f (_ ∷ []) (_ ∷ [])) (fields_append f (_ ∷ _ ∷ []) _))
+    pieces t _ _ (onto t _ _ c.with_type-typed.ensures c.with_next_number-judged.ensures) c.with_bits.ensures (rw (fields_append f (_ ∷ []) (_ ∷ [])) (fields_append f (_ ∷ _ ∷ []) _))
