@@ -4,6 +4,7 @@ use Rattle.dsp_types.specs.declared.ComplexSample.{ComplexSample}
 use Rattle.fir.specs.Fir.{line_of}
 use Rattle.history.specs.History.{held_in, samples_in}
 use Rattle.listener.specs.declared.Listener.{Listener}
+use Rattle.listener.specs.declared.window.Past.{Past}
 use Rattle.listener.specs.declared.window.Reading.{Reading}
 use Rattle.listener.specs.declared.window.Window.{Window}
 use Rattle.listener.specs.declared.window.Window.TheVariants.{Slot, FirstHalf, SecondHalf}
@@ -12,6 +13,10 @@ use Rattle.listener.specs.Signal.{Signal, timing_of, bits_of}
 -- the lists that rings hold, newest first: any stored index counts modulo 2,048
 unfoldable pub signal_from : List ComplexSample → List Float → List Float → List Float → ℕ → Signal
 signal_from inputs re im abs index = record { inputs = inputs; past = samples_in re im index; magnitudes = held_in abs index }
+
+-- .. as they are lent to be read
+abbrev pub signal_in : List ComplexSample → Past → Signal
+signal_in inputs past = signal_from inputs past.re.now past.im.now past.abs.now past.index
 
 unfoldable pub signal_of : Listener → List Float → List Float → List Float → Signal
 signal_of l re im abs = signal_from (line_of l.matched_filter) re im abs l.past_index

@@ -6,7 +6,7 @@ mod listen;
 mod window;
 
 use fir::FirComplexSym;
-pub use window::{Reading, Window, read_window};
+pub use window::{Past, Reading, Window};
 
 // The filter line, and where the newest sample stands in the rings of the past. The rings are lent with each call, as C lends
 // them: a struct of references to them would need a clause in each contract that it still holds the same three.

@@ -1,7 +1,7 @@
 // Windows of the past: a whole slot's, and those of its two halves.
 ghost use Rattle.std.specs.Prelude.{◌≡◌, List, ◌<◌, ◌≤◌};
 ghost use Rattle.dsp_types.specs.declared.ComplexSample.{ComplexSample};
-ghost use Rattle.listener.specs.View.{start_of, symbols_of, signal_from, Reads};
+ghost use Rattle.listener.specs.View.{start_of, symbols_of, signal_in, Reads};
 
 // A slot's window, and those of its halves.
 #[derive(Clone, Copy, Debug, PartialEq, Eq)]
@@ -40,23 +40,29 @@ impl Window {
     }
 }
 
-// A window of rings whose newest element stands at the index.
-pub fn read_window<'a>(
-    re: &'a [f32; 2048],
-    im: &'a [f32; 2048],
-    abs: &'a [f32; 2048],
-    index: usize,
-    window: Window,
-) -> Reading
-    ensures { (inputs : List ComplexSample) → Reads (signal_from inputs re.now im.now abs.now index) (start_of window) (symbols_of window) result }
-{
-    let start = window.start();
-    let symbols = window.symbols();
-    let timing = timing::estimate_timing(abs, index, start, symbols);
-    let whole = timing::whole(timing);
-    let fract = timing::fract(timing);
-    Reading {
-        timing,
-        bits: slot_bits::slot_bits(re, im, index, start, whole, fract, symbols),
+// The past as it is read: rings of samples and of their magnitudes, whose newest elements stand at the index. C lends them one
+// by one.
+#[derive(Clone, Copy)]
+pub struct Past<'a> {
+    pub re: &'a [f32; 2048],
+    pub im: &'a [f32; 2048],
+    pub abs: &'a [f32; 2048],
+    pub index: usize,
+}
+
+impl Past<'_> {
+    pub fn read_window(self, window: Window) -> Reading
+        ensures { (inputs : List ComplexSample) → Reads (signal_in inputs self.entry) (start_of window) (symbols_of window) result }
+    {
+        let Past { re, im, abs, index } = self;
+        let start = window.start();
+        let symbols = window.symbols();
+        let timing = timing::estimate_timing(abs, index, start, symbols);
+        let whole = timing::whole(timing);
+        let fract = timing::fract(timing);
+        Reading {
+            timing,
+            bits: slot_bits::slot_bits(re, im, index, start, whole, fract, symbols),
+        }
     }
 }

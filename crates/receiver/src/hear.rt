@@ -9,6 +9,7 @@ ghost use Rattle.receiver.specs.Hearing.{Judges};
 
 use crate::State;
 use dsp_types::{ComplexSample, Refusal, SampleCount};
+use listener::Past;
 use sample_refusal::sample_refusal;
 use slot_receiver::valid_count;
 
@@ -39,8 +40,13 @@ impl State {
         ensures state { receiver_of self.new re.new im.new abs.new ≡ process_sample (receiver_of self.old re.old im.old abs.old) input counter.0 }
     {
         self.listener.listen(re, im, abs, input);
-        self.slots
-            .arrive(re, im, abs, self.listener.past_index, counter)
+        let past = Past {
+            re,
+            im,
+            abs,
+            index: self.listener.past_index,
+        };
+        self.slots.arrive(past, counter)
     }
 
     // Zeros for the samples that are missing before this counter, and whether one handed a slot over.

@@ -3,7 +3,7 @@ ghost use Rattle.std.specs.Prelude.{◌≡◌, List, ◌*◌, ◌^◌, ◌≤◌
 ghost use Rattle.dsp_types.specs.declared.ComplexSample.{ComplexSample};
 ghost use Rattle.timing.specs.Tracking.{averaged_of};
 ghost use Rattle.listener.specs.Signal.{Signal};
-ghost use Rattle.listener.specs.View.{signal_from};
+ghost use Rattle.listener.specs.View.{signal_in};
 ghost use Rattle.slot_receiver.specs.Receiver.{with_slot, emptied, process_past_samples};
 ghost use Rattle.slot_receiver.specs.View.{mode_of, clock_of, receiver_from};
 ghost use Rattle.slot_receiver.specs.Bounds.{Within, Closing};
@@ -11,7 +11,7 @@ ghost use Rattle.slot_receiver.specs.Bounds.{Within, Closing};
 use crate::{Mode, SlotReceiver};
 use burst_finder::MAX_ERRS;
 use dsp_types::{SampleCount, TdmaTime};
-use listener::{Window, read_window};
+use listener::{Past, Window};
 use rx_slot::no_burst;
 
 // The slot that is current at a find is the one before slot 0.
@@ -47,17 +47,11 @@ impl SlotReceiver {
     }
 
     // Look for a synchronization sequence behind its nominal place, so that its burst can still be demodulated.
-    pub(crate) fn search_window<'a>(
-        &mut self,
-        re: &'a [f32; 2048],
-        im: &'a [f32; 2048],
-        abs: &'a [f32; 2048],
-        index: usize,
-    )
+    pub(crate) fn search_window(&mut self, past: Past)
         requires { Closing (clock_of self.old) self.old.slots_since_last_valid_burst × (mode_of self.old.mode ≡ Mode.DlUnsynchronized) }
-        ensures { (next c : ℤ) (inputs : List ComplexSample) → receiver_from self.new next (signal_from inputs re.now im.now abs.now index) ≡ process_past_samples Mode.DlUnsynchronized (receiver_from self.old next (signal_from inputs re.now im.now abs.now index)) c }
+        ensures { (next c : ℤ) (inputs : List ComplexSample) → receiver_from self.new next (signal_in inputs past.entry) ≡ process_past_samples Mode.DlUnsynchronized (receiver_from self.old next (signal_in inputs past.entry)) c }
     {
-        let window = read_window(re, im, abs, index, Window::Slot);
+        let window = past.read_window(Window::Slot);
         let found = burst_finder::find_sync(&window.bits);
         if MAX_ERRS < found.dist {
             self.empty(self.demodulated_slot.time);

@@ -2,7 +2,7 @@
 ghost use Rattle.std.specs.Prelude.{◌≡◌, List, ℤ};
 ghost use Rattle.dsp_types.specs.declared.ComplexSample.{ComplexSample};
 ghost use Rattle.listener.specs.Signal.{Signal};
-ghost use Rattle.listener.specs.View.{signal_from};
+ghost use Rattle.listener.specs.View.{signal_in};
 ghost use Rattle.slot_receiver.specs.Receiver.{process_past_samples, processed, track, schedule, close_window};
 ghost use Rattle.slot_receiver.specs.View.{mode_of, clock_of, receiver_from};
 ghost use Rattle.slot_receiver.specs.Bounds.{Closing, Scheduled};
@@ -11,7 +11,7 @@ use crate::search::averaged;
 use crate::{Mode, SlotReceiver};
 use burst_finder::SlotType;
 use dsp_types::SampleCount;
-use listener::{Window, read_window};
+use listener::{Past, Window};
 use rx_slot::{RxSlot, checked_burst};
 
 // So many slots in a row without a training sequence, and the receiver searches again.
@@ -19,18 +19,11 @@ pub(crate) const LOST: u32 = 100;
 
 impl SlotReceiver {
     // Hand the current slot over. The hundredth in a row without a training sequence returns to search.
-    fn downlink_window<'a>(
-        &mut self,
-        re: &'a [f32; 2048],
-        im: &'a [f32; 2048],
-        abs: &'a [f32; 2048],
-        index: usize,
-        counter: SampleCount,
-    )
+    fn downlink_window(&mut self, past: Past, counter: SampleCount)
         requires { Closing (clock_of self.old) self.old.slots_since_last_valid_burst × (mode_of self.old.mode ≡ Mode.Dl) }
-        ensures { (next : ℤ) (inputs : List ComplexSample) → receiver_from self.new next (signal_from inputs re.now im.now abs.now index) ≡ process_past_samples Mode.Dl (receiver_from self.old next (signal_from inputs re.now im.now abs.now index)) counter.0 }
+        ensures { (next : ℤ) (inputs : List ComplexSample) → receiver_from self.new next (signal_in inputs past.entry) ≡ process_past_samples Mode.Dl (receiver_from self.old next (signal_in inputs past.entry)) counter.0 }
     {
-        let window = read_window(re, im, abs, index, Window::Slot);
+        let window = past.read_window(Window::Slot);
         let full = checked_burst(SlotType::Dl, &window.bits);
         self.demodulated_slot.time = self.current_slot;
         self.demodulated_slot.closing_counter = counter;
@@ -49,20 +42,13 @@ impl SlotReceiver {
     }
 
     // Hand the slot over that the uplink numbers 2 less, with bursts in the whole slot and in its halves.
-    fn uplink_window<'a>(
-        &mut self,
-        re: &'a [f32; 2048],
-        im: &'a [f32; 2048],
-        abs: &'a [f32; 2048],
-        index: usize,
-        counter: SampleCount,
-    )
+    fn uplink_window(&mut self, past: Past, counter: SampleCount)
         requires { Closing (clock_of self.old) self.old.slots_since_last_valid_burst }
-        ensures { (next : ℤ) (inputs : List ComplexSample) → receiver_from self.new next (signal_from inputs re.now im.now abs.now index) ≡ process_past_samples Mode.Ul (receiver_from self.old next (signal_from inputs re.now im.now abs.now index)) counter.0 }
+        ensures { (next : ℤ) (inputs : List ComplexSample) → receiver_from self.new next (signal_in inputs past.entry) ≡ process_past_samples Mode.Ul (receiver_from self.old next (signal_in inputs past.entry)) counter.0 }
     {
-        let whole = read_window(re, im, abs, index, Window::Slot);
-        let first = read_window(re, im, abs, index, Window::FirstHalf);
-        let second = read_window(re, im, abs, index, Window::SecondHalf);
+        let whole = past.read_window(Window::Slot);
+        let first = past.read_window(Window::FirstHalf);
+        let second = past.read_window(Window::SecondHalf);
         self.demodulated_slot = RxSlot {
             time: self.current_slot.add_timeslots(-2),
             closing_counter: counter,
@@ -77,22 +63,15 @@ impl SlotReceiver {
     }
 
     #[tactic(auto, unfolding(crate::specs::View::receiver_from, crate::specs::Receiver::process_past_samples, crate::specs::Receiver::processed))]
-    fn process_past_samples<'a>(
-        &mut self,
-        re: &'a [f32; 2048],
-        im: &'a [f32; 2048],
-        abs: &'a [f32; 2048],
-        index: usize,
-        counter: SampleCount,
-    )
+    fn process_past_samples(&mut self, past: Past, counter: SampleCount)
         requires { Closing (clock_of self.old) self.old.slots_since_last_valid_burst }
-        ensures { (next : ℤ) (inputs : List ComplexSample) → receiver_from self.new next (signal_from inputs re.now im.now abs.now index) ≡ processed (receiver_from self.old next (signal_from inputs re.now im.now abs.now index)) counter.0 }
+        ensures { (next : ℤ) (inputs : List ComplexSample) → receiver_from self.new next (signal_in inputs past.entry) ≡ processed (receiver_from self.old next (signal_in inputs past.entry)) counter.0 }
     {
         match self.mode() {
             Mode::Idle => {}
-            Mode::DlUnsynchronized => self.search_window(re, im, abs, index),
-            Mode::Dl => self.downlink_window(re, im, abs, index, counter),
-            Mode::Ul => self.uplink_window(re, im, abs, index, counter),
+            Mode::DlUnsynchronized => self.search_window(past),
+            Mode::Dl => self.downlink_window(past, counter),
+            Mode::Ul => self.uplink_window(past, counter),
         }
     }
 
@@ -129,18 +108,11 @@ impl SlotReceiver {
 
     // A window closes: it is read, and the next one is set.
     #[tactic(auto, unfolding(crate::specs::View::receiver_from, crate::specs::Receiver::close_window))]
-    pub(crate) fn close_window<'a>(
-        &mut self,
-        re: &'a [f32; 2048],
-        im: &'a [f32; 2048],
-        abs: &'a [f32; 2048],
-        index: usize,
-        counter: SampleCount,
-    )
+    pub(crate) fn close_window(&mut self, past: Past, counter: SampleCount)
         requires { Closing (clock_of self.old) self.old.slots_since_last_valid_burst }
-        ensures { (next : ℤ) (inputs : List ComplexSample) → receiver_from self.new next (signal_from inputs re.now im.now abs.now index) ≡ close_window (receiver_from self.old next (signal_from inputs re.now im.now abs.now index)) counter.0 }
+        ensures { (next : ℤ) (inputs : List ComplexSample) → receiver_from self.new next (signal_in inputs past.entry) ≡ close_window (receiver_from self.old next (signal_in inputs past.entry)) counter.0 }
     {
-        self.process_past_samples(re, im, abs, index, counter);
+        self.process_past_samples(past, counter);
         self.schedule();
     }
 }

@@ -1,7 +1,7 @@
 -- By the test.
 use Rattle.std.proofs.Common.{◌≡◌, sym, ◌∙◌, ◌-ℤ◌, pos, lit≤}
 use Rattle.dsp_types.specs.Ints.{eq_z}
-use Rattle.listener.specs.View.{signal_from}
+use Rattle.listener.specs.View.{signal_in}
 use Rattle.slot_receiver.specs.Receiver.{closes, close_if, close_window}
 use Rattle.slot_receiver.specs.View.{clock_of, receiver_from}
 use Rattle.slot_receiver.proofs.Signed.{counter_37, minus_few}
@@ -21,7 +21,7 @@ pub returns-then-not-closes-clause-handed : goal.returns-then-not-closes-clause-
 unfolding closes receiver_from
 returns-then-not-closes-clause-handed c = λ next inputs.
     let a = c.args in
-    let r = receiver_from a.self.now next (signal_from inputs a.re.now a.im.now a.abs.now a.index) in
+    let r = receiver_from a.self.now next (signal_in inputs a.past) in
     let t = tested (goal.at.returns-then-not-closes-clause-handed c).After-closes ∙ c.if-not-closes.true in
     rw t (hands_none r a.counter.0)
 
@@ -35,7 +35,7 @@ pub returns-clause-handed : goal.returns-clause-handed
 unfolding closes receiver_from
 returns-clause-handed c = λ next inputs.
     let a = c.args in
-    let r = receiver_from a.self.now next (signal_from inputs a.re.now a.im.now a.abs.now a.index) in
+    let r = receiver_from a.self.now next (signal_in inputs a.past) in
     let t = tested (goal.at.returns-clause-handed c).After-closes ∙ c.if-not-closes.false in
     rw t (rw c.mode.ensures at (c.hands_over-handed.ensures (close_window r a.counter.0)) ∙ hands_closed r a.counter.0)
 

@@ -2,7 +2,7 @@
 use Rattle.std.proofs.Common.{rules, ◌≡◌, ap, List, take, ◌+◌, ℤ, lit<, arith}
 use Rattle.burst_finder.specs.declared.SlotType.TheVariants as SlotType
 use Rattle.dsp_types.specs.declared.ComplexSample.{ComplexSample}
-use Rattle.listener.specs.View.{signal_from}
+use Rattle.listener.specs.View.{signal_in}
 use Rattle.rx_slot.specs.Views.{BurstView, checked, stored_view}
 use Rattle.slot_receiver.specs.declared.Mode.{Mode}
 use Rattle.slot_receiver.specs.declared.Mode.TheVariants.{Dl}
@@ -13,7 +13,7 @@ use Rattle.slot_receiver.proofs.SlotReceiver.downlink_window.Goals as goal
 use Rattle.slot_receiver.proofs.SlotReceiver.downlink_window.Goals.{After-checked_burst-full}
 
 abbrev receiver : After-checked_burst-full → ℤ → List ComplexSample → Receiver
-receiver c next inputs = receiver_from c.args.self.now next (signal_from inputs c.args.re.now c.args.im.now c.args.abs.now c.args.index)
+receiver c next inputs = receiver_from c.args.self.now next (signal_in inputs c.args.past)
 
 abbrev view : After-checked_burst-full → BurstView
 view c = stored_view 510 c.read_window-window.result.bits c.checked_burst-full.result

@@ -4,7 +4,7 @@ use Rattle.dsp_types.proofs.Laws.{slot_below}
 use Rattle.burst_finder.specs.Search.{find_sync, below}
 use Rattle.dsp_types.specs.declared.ComplexSample.{ComplexSample}
 use Rattle.listener.specs.Signal.{Signal}
-use Rattle.listener.specs.View.{signal_from}
+use Rattle.listener.specs.View.{signal_in}
 use Rattle.slot_receiver.specs.declared.Mode.TheVariants.{Dl}
 use Rattle.slot_receiver.specs.Receiver.{Receiver, with_mode, with_clock, with_lock, with_slot, set_slot}
 use Rattle.slot_receiver.specs.View.{receiver_from, mode_of}
@@ -15,7 +15,7 @@ use Rattle.slot_receiver.proofs.SlotReceiver.search_window.Goals as goal
 use Rattle.slot_receiver.proofs.SlotReceiver.search_window.Goals.{After-find_sync-found}
 
 abbrev heard : After-find_sync-found → List ComplexSample → Signal
-heard c inputs = signal_from inputs c.args.re.now c.args.im.now c.args.abs.now c.args.index
+heard c inputs = signal_in inputs c.args.past
 
 abbrev receiver : After-find_sync-found → ℤ → List ComplexSample → Receiver
 receiver c next inputs = receiver_from c.args.self.now next (heard c inputs)

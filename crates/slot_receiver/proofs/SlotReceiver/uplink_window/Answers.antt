@@ -2,7 +2,7 @@
 use Rattle.std.proofs.Common.{rules, ◌≡◌, ◌∙◌, ◌%◌, pos, ◌-ℤ◌, mod-eq_of_lt}
 use Rattle.dsp_types.specs.Times.{slot_of, slots}
 use Rattle.burst_finder.specs.declared.SlotType.{SlotType}
-use Rattle.listener.specs.View.{signal_from}
+use Rattle.listener.specs.View.{signal_in}
 use Rattle.slot_receiver.specs.Receiver.{with_waits, with_slot, hand_over}
 use Rattle.slot_receiver.specs.View.{receiver_from}
 use Rattle.slot_receiver.proofs.Views.{seen, seen_all, uplinked}
@@ -16,7 +16,7 @@ returns c = λ next inputs.
     let h : a.self.now.current_slot.0 % slots ≡ a.self.now.current_slot.0 = mod-eq_of_lt c.requires.timed.current in
     let numbered : c.add_timeslots.result.0 ≡ slot_of (pos a.self.now.current_slot.0 -ℤ pos 2) = c.add_timeslots.ensures ∙ rw h in
     uplinked
-    (receiver_from a.self.now next (signal_from inputs a.re.now a.im.now a.abs.now a.index))
+    (receiver_from a.self.now next (signal_in inputs a.past))
     a.counter.0
     c.read_window-whole.result
     c.read_window-first.result
