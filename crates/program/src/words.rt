@@ -1,5 +1,5 @@
 // The words of the command line, read one behind the other.
-ghost use Rattle.std.specs.Prelude.{◌≡◌, ◌+◌, ◌-◌, ◌^◌, min, ◌<◌, ◌≤◌, false, ◌||◌, length, IfSome, MatchOption};
+ghost use Rattle.std.specs.Prelude.{◌≡◌, ◌+◌, ◌%◌, ◌^◌, ◌<◌, ◌≤◌, false, ◌||◌, length, IfSome, MatchOption};
 ghost use Rattle.program.specs.Words.{same_word, is_option, kind_of_word, kind_of_word_at, named_at};
 ghost use Rattle.text.specs.Text.{ascii};
 
@@ -120,14 +120,13 @@ impl Words {
     pub fn value<'a, E: Env>(&mut self, rt: &E, buf: &'a mut [u8]) -> Option<Word<'a>>
         ensures len_bound { IfSome result (λ word. length word.text.now ≤ length buf.old) }
         ensures place { IfSome result (λ word. (word.at ≡ self.old.at) × (self.old.at < self.new.at)) }
-        ensures at_value { (self.new.at ≡ min (self.old.at + 1) (2 ^ 64 - 1)) × (self.new.is_ended ≡ self.old.is_ended) }
-        ensures forward { self.old.at ≤ self.new.at }
+        ensures at_value { (self.new.at ≡ (self.old.at + 1) % 2 ^ 64) × (self.new.is_ended ≡ self.old.is_ended) }
     {
         let at = self.at;
-        self.at = at.saturating_add(1);
+        self.at = at.wrapping_add(1);
         let text = arg(rt, at, buf)?;
         // No word has the last place that can be counted, so that reading on ends.
-        if self.at == at {
+        if self.at == 0 {
             return None;
         }
         Some(Word { at, text })
@@ -139,7 +138,7 @@ impl Words {
         ensures len_bound { IfSome result (λ told. length told.1.text.now ≤ length buf.old) }
         ensures place { IfSome result (λ told. (told.1.at ≡ self.old.at) × (self.old.at < self.new.at)) }
         ensures kind_value { IfSome result (λ told. told.0 ≡ kind_of_word_at self.old.is_ended told.1.text.now) }
-        ensures at_value { self.new.at ≡ min (self.old.at + 1) (2 ^ 64 - 1) }
+        ensures at_value { self.new.at ≡ (self.old.at + 1) % 2 ^ 64 }
         ensures is_ended_value { MatchOption result (self.new.is_ended ≡ self.old.is_ended)
             (λ told. self.new.is_ended ≡ (self.old.is_ended || same_word told.1.text.now (ascii "--"))) }
     {

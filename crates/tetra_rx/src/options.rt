@@ -56,6 +56,16 @@ struct Reader {
     options: Options,
 }
 
+// The next word, an option's value; where there is none, the words stay as they are.
+fn value<'a, E: Env>(rt: &E, words: &mut Words, buf: &'a mut [u8]) -> Option<Word<'a>>
+    ensures { words.old.at ≤ words.new.at }
+{
+    let mut behind = *words;
+    let word = behind.value(rt, buf)?;
+    *words = behind;
+    Some(word)
+}
+
 impl Reader {
     fn new() -> Reader {
         Reader {
@@ -106,8 +116,8 @@ impl Reader {
             b"--progress" => self.options.is_progress = true,
             b"--no-bits" => self.options.has_bits = false,
             b"--json" => self.options.form = Form::Json,
-            b"--format" => self.read_format(words.value(rt, &mut buf)),
-            b"--uplink" => self.read_uplink(words.value(rt, &mut buf)),
+            b"--format" => self.read_format(value(rt, words, &mut buf)),
+            b"--uplink" => self.read_uplink(value(rt, words, &mut buf)),
             _ => self.refuse(Wrong::Word(program::Wrong::UnknownOption)),
         }
     }
