@@ -35,6 +35,7 @@ pub fn run_calls(
 {
     let mut receiver = Demodulator::new(Mode::DlUnsynchronized);
     let count = calls.len().min(room(told.len(), lent.len()));
+    // Written by index: of what `chunks_exact_mut` lends, nothing is known after the loop.
     for (i, call) in calls[..count].iter().enumerate() {
         let made = one_call(&mut receiver, *call, other);
         told[ROW * i..ROW * i + ROW].copy_from_slice(&made.told);

@@ -2,6 +2,7 @@
 ghost use Rattle.std.specs.Prelude.{◌/◌, ◌<◌, length};
 
 use dsp_types::SampleCount;
+use history::History;
 use receiver::{State, Stop};
 use slot_receiver::Mode;
 
@@ -14,15 +15,13 @@ fn rest_of_block(samples: &[f32], at: usize) -> &[f32]
     &samples[from..to]
 }
 
-// Takes the slot that waits. Its number, or 0 where none is handed out.
-fn take_slot(state: &mut State) -> u32 {
+// Takes the slot that waits, and gives its number.
+fn take_slot(state: &mut State) -> Option<u32> {
     let mut slot = [0u8; 510];
     let mut subslot1 = [0u8; 254];
     let mut subslot2 = [0u8; 254];
-    match state.take_demodulated_slot(&mut slot, &mut subslot1, &mut subslot2) {
-        Ok(told) => told.time.0,
-        Err(_) => 0,
-    }
+    let taken = state.take_demodulated_slot(&mut slot, &mut subslot1, &mut subslot2);
+    Some(taken.ok()?.time.0)
 }
 
 // A new searching receiver over all samples, re and im in turn, fed in blocks of 1,020 with the counters from 0 on. Each slot
@@ -31,9 +30,7 @@ fn take_slot(state: &mut State) -> u32 {
 #[unsafe(no_mangle)]
 pub extern "C" fn bench_receive(samples: &[f32], numbers: &mut [u32]) -> usize {
     let total = samples.len() / 2;
-    let mut re = [0.0f32; 2048];
-    let mut im = [0.0f32; 2048];
-    let mut abs = [0.0f32; 2048];
+    let mut past = History::new();
     let mut state = State::new(Mode::DlUnsynchronized);
     let mut at: usize = 0;
     let mut count: usize = 0;
@@ -43,13 +40,21 @@ pub extern "C" fn bench_receive(samples: &[f32], numbers: &mut [u32]) -> usize {
             break;
         }
         let block = rest_of_block(samples, at);
-        let fed = state.feed(&mut re, &mut im, &mut abs, block, SampleCount(at as i64));
+        let fed = state.feed(
+            &mut past.re,
+            &mut past.im,
+            &mut past.abs,
+            block,
+            SampleCount(at as i64),
+        );
         at = at.wrapping_add(fed.taken);
         match fed.stop {
             Stop::End => {}
             Stop::Slot => {
-                let number = take_slot(&mut state);
-                if let Some(place) = numbers.get_mut(count) {
+                if let (Some(number), Some(place)) = (
+                    take_slot(&mut state),
+                    numbers.get_mut(count),
+                ) {
                     *place = number;
                 }
                 count = count.wrapping_add(1);

@@ -9,7 +9,8 @@ use fir::FirComplexSym;
 pub use window::{Past, Reading, Window};
 
 // The filter line, and where the newest sample stands in the rings of the past. The rings are lent with each call, as C lends
-// them: a struct of references to them would need a clause in each contract that it still holds the same three.
+// them, and where they change one by one: a struct of `&mut` to them would need a clause in each contract that it still holds
+// the same three. Where they are only read they travel as `Past`.
 #[repr(C)]
 #[derive(Clone, Copy)]
 pub struct Listener {

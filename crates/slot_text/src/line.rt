@@ -15,6 +15,7 @@ struct Burst<'a> {
     bits: &'a [u8],
 }
 
+// Where nothing is shown, nothing is appended: the equation is then of the form of the others.
 impl Style {
     #[tactic(auto, unfolding(crate::specs::Lines::link_fields, crate::specs::Fields::fields_text, text::specs::Text::ascii))]
     fn with_link(self, text: Text) -> Text
@@ -31,15 +32,11 @@ impl Style {
     fn with_bits(self, text: Text, prefix: &[u8], bits: &[u8]) -> Text
         ensures { result ≡ cut (text ++ fields_text self.form (bits_fields self.has_bits prefix.now bits.now)) }
     {
-        if bits.len() == 0 {
+        if bits.is_empty() || !self.has_bits {
             return text.append(b"");
         }
-        if self.has_bits {
-            let worded = self.form.up_to_word(text, prefix, b"bits").bits(bits);
-            self.form.quote(worded)
-        } else {
-            text.append(b"")
-        }
+        let worded = self.form.up_to_word(text, prefix, b"bits").bits(bits);
+        self.form.quote(worded)
     }
 
     // With a burst's type, wrong training bits and bits.
@@ -60,8 +57,7 @@ impl Style {
         ensures { result ≡ cut (text ++ fields_text self.form (half_fields self.has_bits self.link (burst_read first.entry.told first.entry.bits.now) (burst_read second.entry.told second.entry.bits.now))) }
     {
         match self.link {
-            Link::Alone => text.append(b""),
-            Link::Down => text.append(b""),
+            Link::Alone | Link::Down => text.append(b""),
             Link::Up => {
                 let half = self.with_burst(text, b"half1_", first);
                 self.with_burst(half, b"half2_", second)
