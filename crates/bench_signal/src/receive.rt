@@ -34,11 +34,7 @@ pub extern "C" fn bench_receive(samples: &[f32], numbers: &mut [u32]) -> usize {
     let mut state = State::new(Mode::DlUnsynchronized);
     let mut at: usize = 0;
     let mut count: usize = 0;
-    // Each turn takes a sample at least. That is not proved here, so the turns are counted.
-    for _ in 0..total {
-        if total <= at {
-            break;
-        }
+    while at < total {
         let block = rest_of_block(samples, at);
         let fed = state.feed(
             &mut past.re,
@@ -47,7 +43,8 @@ pub extern "C" fn bench_receive(samples: &[f32], numbers: &mut [u32]) -> usize {
             block,
             SampleCount(at as i64),
         );
-        at = at.wrapping_add(fed.taken);
+        // A sample at least was taken, but where one is refused. That is not proved here.
+        at = at.saturating_add(fed.taken.max(1));
         match fed.stop {
             Stop::End => {}
             Stop::Slot => {
