@@ -5,7 +5,8 @@ ghost use Rattle.std.specs.Prelude.{◌≡◌, ◌+◌, ◌≤◌, ◌%◌, leng
 ghost use Rattle.dsp_types.specs.Samples.{zero_f, ago};
 ghost use Rattle.history.specs.History.{held_in, held_after};
 
-// What is kept of the past: three rings. Where their newest element stands is kept beside them.
+// What is kept of the past: three rings, since C lends them one by one, and the compiler works on several elements of one ring at
+// once. Where their newest element stands is kept beside them.
 #[repr(C)]
 #[derive(Clone, Copy)]
 pub struct History {

@@ -49,11 +49,10 @@ fn write_answer(f: Finding, answer: &mut [u8])
     requires { (f.train_errs < 256) × (f.burst_pos < 65536) × (f.burst_len < 65536) × (length answer.old ≡ 6) }
     ensures { answer.new ≡ finding_bytes f }
 {
-    let train_type = f.train_type;
     let [pos_low, pos_high] = (f.burst_pos as u16).to_le_bytes();
     let [len_low, len_high] = (f.burst_len as u16).to_le_bytes();
     answer.copy_from_slice(&[
-        train_type.number(),
+        f.train_type.number(),
         f.train_errs as u8,
         pos_low,
         pos_high,

@@ -10,7 +10,7 @@ ghost use Rattle.mapper.specs.Dqpsk.{turn_of, next_phase, point_of, phase_after,
 use dsp_types::ComplexSample;
 pub use slot::{SlotToSend, due_now, start_of};
 
-// What a call of the sender is to feed to its filter.
+// What a call of the sender is to feed to its filter. An `Option` of two bits would not say that silence is fed.
 #[derive(Clone, Copy, Debug, PartialEq, Eq)]
 pub enum Due {
     // The slot is in the future, has no bits, or no symbol starts here.

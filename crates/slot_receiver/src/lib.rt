@@ -28,7 +28,7 @@ pub enum Mode {
 }
 
 // Mode and training sequences are stored as numbers: C holds this struct, and no exported struct holds an enum. A stored number that no
-// call could have left counts as a valid one.
+// call could have left counts as a valid one, so that what holds of valid ones stands in contracts, and not in the type.
 #[repr(C)]
 #[derive(Clone, Copy)]
 pub struct SlotReceiver {

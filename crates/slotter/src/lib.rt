@@ -108,7 +108,8 @@ fn block_refusal(n: usize, blk1: &[u8], bbk: &[u8], blk2: &[u8]) -> Result<(), R
     length_or_bit(lengths, not_bits(blk1) || not_bits(bbk) || not_bits(blk2))
 }
 
-// The normal training sequence with that number, 1 or 2; another number is refused with 5.
+// The normal training sequence with that number, 1 or 2; another number is refused with 5. It comes as a number, since 01 gives
+// every number an answer.
 #[tactic(auto, unfolding(crate::specs::Bursts::training_refusal, crate::specs::Bursts::training_of, train_consts::specs::Training::normal1, train_consts::specs::Training::normal2))]
 fn training(train: u32) -> Result<[u8; 22], Refusal>
     ensures number { answer_number result ≡ training_refusal train }

@@ -21,7 +21,7 @@ pub struct Judged {
     // The builder's refusal, if it refused.
     pub built: Result<(), Refusal>,
     pub finding: Finding,
-    // What the logger's call returns, and its six bytes.
+    // What the logger's call returns, and its six bytes: the zeros that were lent where it refuses.
     pub judged: Result<(), Refusal>,
     pub answer: [u8; 6],
 }
