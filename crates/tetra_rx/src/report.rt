@@ -1,5 +1,5 @@
 // What is told on standard error.
-use crate::tally::Mode;
+use slot_receiver::Mode;
 use streams::Host;
 use text::Text;
 
@@ -38,10 +38,11 @@ pub(crate) fn with_count(text: Text, n: u64, what: &[u8]) -> Text {
     }
 }
 
+// What a downlink's receiver does.
 pub(crate) fn with_mode(text: Text, mode: Mode) -> Text {
     match mode {
-        Mode::Locked => text.append(b"locked"),
-        Mode::Searching => text.append(b"searching"),
+        Mode::Dl => text.append(b"locked"),
+        _ => text.append(b"searching"),
     }
 }
 

@@ -4,6 +4,7 @@ use crate::options::Options;
 use crate::report;
 use dsp_types::{COUNTERS, SampleCount};
 use receiver::State;
+use slot_receiver::Mode;
 use std::io::IsTerminal;
 use streams::Host;
 use text::Text;
@@ -13,24 +14,6 @@ const SECOND: u64 = 72000;
 
 const MINUTE: u64 = 60 * SECOND;
 
-// What the downlink's receiver does.
-#[derive(Clone, Copy, Debug, PartialEq, Eq)]
-pub(crate) enum Mode {
-    Searching,
-    Locked,
-}
-
-// A receiver keeps its mode as a number, for C: a downlink's is 1 or 2.
-impl From<u8> for Mode {
-    fn from(number: u8) -> Mode {
-        if number == 2 {
-            Mode::Locked
-        } else {
-            Mode::Searching
-        }
-    }
-}
-
 // A counter as the receiver takes it.
 pub(crate) fn count_of(counter: u64) -> SampleCount {
     SampleCount((counter % 0x8000_0000_0000_0000) as i64)
@@ -38,8 +21,8 @@ pub(crate) fn count_of(counter: u64) -> SampleCount {
 
 // How many samples from that counter on the downlink is given in a step: while it searches, none behind the one at which its
 // window closes, so that a step ends where it locks. A loss comes with a slot, which ends a step anyway.
-pub(crate) fn step_length(down: State, counter: u64) -> usize {
-    if Mode::from(down.slots.mode) == Mode::Searching {
+pub(crate) fn step_length(down: &State, counter: u64) -> usize {
+    if down.slots.mode() == Mode::DlUnsynchronized {
         down.slots.quiet_samples(count_of(counter)).wrapping_add(1)
     } else {
         usize::MAX
@@ -77,7 +60,7 @@ impl Tally {
             is_quiet: options.is_quiet,
             is_progress,
             is_shared,
-            mode: Mode::Searching,
+            mode: Mode::DlUnsynchronized,
             since: 0,
             is_advised: false,
             next: SECOND,
@@ -88,8 +71,7 @@ impl Tally {
 
     // The mode that the downlink is in behind the sample with that counter, the last of a step: where the mode has changed, a
     // window closed at this sample.
-    pub(crate) fn set_mode<H: Host>(&mut self, rt: &H, number: u8, counter: u64) {
-        let mode = Mode::from(number);
+    pub(crate) fn set_mode<H: Host>(&mut self, rt: &H, mode: Mode, counter: u64) {
         if mode == self.mode {
             return;
         }
@@ -141,7 +123,7 @@ impl Tally {
     // After a minute of search without a lock.
     fn advise<H: Host>(&mut self, rt: &H) {
         let searched = self.counter.wrapping_sub(self.since);
-        if self.is_quiet || self.is_advised || self.mode == Mode::Locked || searched < MINUTE {
+        if self.is_quiet || self.is_advised || self.mode == Mode::Dl || searched < MINUTE {
             return;
         }
         report::tell(
