@@ -23,10 +23,10 @@ impl Downlink {
         let last = first.wrapping_add(heard.taken as u64).wrapping_sub(1);
         self.tally.set_mode(rt, self.receiver.slots.mode(), last);
         if heard.refusal.is_some() {
-            self.tally.refuse(rt, false, last);
+            self.tally.refuse(rt, Link::Alone, last);
         }
         if let Some(line) = heard.line {
-            self.tally.print(rt, false, line);
+            self.tally.print(rt, Link::Alone, line);
         }
     }
 

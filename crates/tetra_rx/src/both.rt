@@ -31,20 +31,19 @@ impl Both {
 
     // Tells what a step from that counter on came to, of the uplink or of the downlink: a slot's line, a refused sample, and the
     // downlink's mode.
-    fn tell<H: Host>(&mut self, rt: &H, is_up: bool, heard: Heard, first: u64) {
-        let ahead = if is_up {
-            heard.taken
-        } else {
-            self.links.behind
+    fn tell<H: Host>(&mut self, rt: &H, link: Link, heard: Heard, first: u64) {
+        let ahead = match link {
+            Link::Up => heard.taken,
+            Link::Alone | Link::Down => self.links.behind,
         };
         let last = first.wrapping_add(ahead as u64).wrapping_sub(1);
         if let Some(line) = heard.line {
-            self.tally.print(rt, is_up, line);
+            self.tally.print(rt, link, line);
         }
         if heard.refusal.is_some() {
-            self.tally.refuse(rt, is_up, last);
+            self.tally.refuse(rt, link, last);
         }
-        if !is_up {
+        if let Link::Down = link {
             self.tally.set_mode(rt, self.links.down.slots.mode(), last);
         }
     }
@@ -70,11 +69,10 @@ impl Both {
                 break;
             }
             let first = start.wrapping_add(at as u64);
-            let is_up = 0 < self.links.behind;
-            let n = if is_up {
-                self.links.behind
+            let (link, n) = if 0 < self.links.behind {
+                (Link::Up, self.links.behind)
             } else {
-                step_length(&self.links.down, first)
+                (Link::Down, step_length(&self.links.down, first))
             };
             let samples = samples_from(parts, at, n);
             let up_samples = samples_from(up_parts, at, n);
@@ -88,7 +86,7 @@ impl Both {
                 style,
             );
             at = at.wrapping_add(heard.taken);
-            self.tell(rt, is_up, heard, first);
+            self.tell(rt, link, heard, first);
         }
         self.tally.move_on(rt, at, parts);
     }
