@@ -21,7 +21,7 @@ use Rattle.slot_text.specs.declared.Style.{Style}
 use Rattle.slot_lines.specs.Blocks.{line_of, hear_one, Step, stretch_of, stretch_by, mended_by, step_of}
 use Rattle.slot_lines.specs.Links.{down_style, up_style, follow_if, begins_if, still_begins, shown_of, is_shown, UpPrinted, up_printed, both_printed, Both, rest_printed, BothStep, lead_step, catch_up_step, step_by, both_step, both_of, both_made}
 use Rattle.slot_lines.specs.declared.links.Links.{Links}
-use Rattle.slot_lines.specs.declared.links.LinksHeard.{LinksHeard}
+use Rattle.slot_lines.specs.declared.listen.Heard.{Heard}
 use Rattle.slot_lines.proofs.Steps.{counts, First, on, ends, first, step_goes, samples_count}
 
 counts_both : (c : ℤ) (t n : ℕ) → t ≤ n → (c +ℤ pos t) +ℤ pos (n - t) ≡ c +ℤ pos n
@@ -160,7 +160,7 @@ catches_up form has_bits b xs ys c e = go b.behind e
     go (suc n) e = refl
 
 -- of what is stored, and made of it by a step of either link
-module _ (form : Form) (has_bits : Bool) (l : Links) (re im abs up_re up_im up_abs : List Float) (xs ys : List ComplexSample) (c : ℤ) (h : LinksHeard) (m : Links) (re₁ im₁ abs₁ up_re₁ up_im₁ up_abs₁ : List Float) where
+module _ (form : Form) (has_bits : Bool) (l : Links) (re im abs up_re up_im up_abs : List Float) (xs ys : List ComplexSample) (c : ℤ) (h : Heard) (m : Links) (re₁ im₁ abs₁ up_re₁ up_im₁ up_abs₁ : List Float) where
   abbrev Hears : Type 0
   Hears =
       (both_made h m re₁ im₁ abs₁ up_re₁ up_im₁ up_abs₁ ≡ both_step form has_bits (both_of l re im abs up_re up_im up_abs) xs ys c)

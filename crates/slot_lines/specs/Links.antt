@@ -13,7 +13,7 @@ use Rattle.slot_text.specs.declared.Form.{Form}
 use Rattle.slot_text.specs.declared.Link.TheVariants.{Down, Up}
 use Rattle.slot_text.specs.declared.Style.{Style}
 use Rattle.slot_lines.specs.declared.links.Links.{Links}
-use Rattle.slot_lines.specs.declared.links.LinksHeard.{LinksHeard}
+use Rattle.slot_lines.specs.declared.listen.Heard.{Heard}
 use Rattle.slot_lines.specs.Blocks.{hear_one, step_of, line_of}
 
 unfoldable pub down_style : Form → Bool → Style
@@ -156,5 +156,5 @@ both_step form has_bits b xs ys c = step_by b.behind form has_bits b xs ys c
 unfoldable pub both_of : Links → (re im abs up_re up_im up_abs : List Float) → Both
 both_of l re im abs up_re up_im up_abs = record { down = receiver_of l.down re im abs; up = receiver_of l.up up_re up_im up_abs; begins = l.begins; behind = l.behind; slot = is_some l.line; line = line_of l.line }
 
-unfoldable pub both_made : LinksHeard → Links → (re im abs up_re up_im up_abs : List Float) → BothStep
+unfoldable pub both_made : Heard → Links → (re im abs up_re up_im up_abs : List Float) → BothStep
 both_made h l re im abs up_re up_im up_abs = record { taken = h.taken; refusal = end_number h.refusal; line = line_of h.line; is_shown = is_some h.line; both = both_of l re im abs up_re up_im up_abs }

@@ -4,6 +4,6 @@
 mod links;
 mod listen;
 
-pub use links::{Links, LinksHeard, first_samples, hear_links};
+pub use links::{Links, first_samples, hear_links};
 pub use listen::{Heard, hear};
 pub use slot_text::Style;

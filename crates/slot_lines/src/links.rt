@@ -5,8 +5,9 @@ ghost use Rattle.receiver.specs.View.{receiver_of};
 ghost use Rattle.slot_lines.specs.Blocks.{line_of};
 ghost use Rattle.slot_lines.specs.Links.{is_uplink, is_past, follow_if, begins_if, shown_of, is_shown, rest_printed, lead_step, catch_up_step, both_step, both_of, both_made};
 
-use crate::listen::hear;
-use dsp_types::{Refusal, SampleCount};
+use crate::listen::{Heard, hear};
+use dsp_types::SampleCount;
+use history::History;
 use receiver::State;
 use slot_receiver::Mode;
 use slot_text::{Link, Style};
@@ -21,14 +22,6 @@ pub struct Links {
     // So many samples the downlink has heard and the uplink has not.
     pub behind: usize,
     // The line of the slot that the last of them handed over, if it did.
-    pub line: Option<Text>,
-}
-
-// How many samples both are done with, the refusal of the last that was heard, and what is printed.
-#[derive(Clone, Copy)]
-pub struct LinksHeard {
-    pub taken: usize,
-    pub refusal: Option<Refusal>,
     pub line: Option<Text>,
 }
 
@@ -79,14 +72,12 @@ impl Links {
     #[tactic(auto, using(crate::proofs::Both::led_made), unfolding(crate::specs::Blocks::step_made, crate::specs::Links::down_style, crate::specs::Links::both_of, crate::specs::Links::both_made))]
     fn lead(
         &mut self,
-        re: &mut [f32; 2048],
-        im: &mut [f32; 2048],
-        abs: &mut [f32; 2048],
+        past: &mut History,
         samples: &[f32],
         first: SampleCount,
         style: Style,
-    ) -> LinksHeard
-        ensures { (up_re up_im up_abs : List Float) → both_made result self.new re.new im.new abs.new up_re up_im up_abs ≡ lead_step style.form style.has_bits (both_of self.old re.old im.old abs.old up_re up_im up_abs) (interleaved samples.now) first.0 }
+    ) -> Heard
+        ensures { (up_re up_im up_abs : List Float) → both_made result self.new past.new.re past.new.im past.new.abs up_re up_im up_abs ≡ lead_step style.form style.has_bits (both_of self.old past.old.re past.old.im past.old.abs up_re up_im up_abs) (interleaved samples.now) first.0 }
     {
         let line = self.line;
         self.follow_if(first);
@@ -94,10 +85,10 @@ impl Links {
             link: Link::Down,
             ..style
         };
-        let heard = hear(&mut self.down, re, im, abs, samples, first, style);
+        let heard = hear(&mut self.down, past, samples, first, style);
         self.behind = heard.taken;
         self.line = heard.line;
-        LinksHeard {
+        Heard {
             taken: 0,
             refusal: heard.refusal,
             line,
@@ -107,25 +98,23 @@ impl Links {
     // The uplink comes after it, up to a slot of its own, or to a refused sample.
     fn catch_up(
         &mut self,
-        re: &mut [f32; 2048],
-        im: &mut [f32; 2048],
-        abs: &mut [f32; 2048],
+        past: &mut History,
         samples: &[f32],
         first: SampleCount,
         style: Style,
-    ) -> LinksHeard
-        ensures { (down_re down_im down_abs : List Float) → both_made result self.new down_re down_im down_abs re.new im.new abs.new ≡ catch_up_step style.form style.has_bits (both_of self.old down_re down_im down_abs re.old im.old abs.old) (interleaved samples.now) first.0 }
+    ) -> Heard
+        ensures { (down_re down_im down_abs : List Float) → both_made result self.new down_re down_im down_abs past.new.re past.new.im past.new.abs ≡ catch_up_step style.form style.has_bits (both_of self.old down_re down_im down_abs past.old.re past.old.im past.old.abs) (interleaved samples.now) first.0 }
     {
         let style = Style {
             link: Link::Up,
             ..style
         };
         let behind = first_samples(samples, self.behind);
-        let heard = hear(&mut self.up, re, im, abs, behind, first, style);
+        let heard = hear(&mut self.up, past, behind, first, style);
         let line = shown(self.begins, heard.line);
         self.begins &= heard.line.is_none();
         self.behind -= heard.taken;
-        LinksHeard {
+        Heard {
             taken: heard.taken,
             refusal: heard.refusal,
             line,
@@ -134,27 +123,22 @@ impl Links {
 }
 
 // Hears samples of both links, re and im in turn, with the counters from first on, for which it is called again until all are
-// done with: the downlink leads up to a slot, then the uplink comes after it, and then it follows. Each past is lent as three
-// arrays, as C lends it.
+// done with: the downlink leads up to a slot, then the uplink comes after it, and then it follows.
 pub fn hear_links(
     links: &mut Links,
-    re: &mut [f32; 2048],
-    im: &mut [f32; 2048],
-    abs: &mut [f32; 2048],
-    up_re: &mut [f32; 2048],
-    up_im: &mut [f32; 2048],
-    up_abs: &mut [f32; 2048],
+    past: &mut History,
+    up_past: &mut History,
     samples: &[f32],
     up_samples: &[f32],
     first: SampleCount,
     style: Style,
-) -> LinksHeard
-    ensures step { both_made result links.new re.new im.new abs.new up_re.new up_im.new up_abs.new ≡ both_step style.form style.has_bits (both_of links.old re.old im.old abs.old up_re.old up_im.old up_abs.old) (interleaved samples.now) (interleaved up_samples.now) first.0 }
-    ensures whole { length (interleaved samples.now) ≡ length (interleaved up_samples.now) → rest_printed style.form style.has_bits (both_of links.old re.old im.old abs.old up_re.old up_im.old up_abs.old) (interleaved samples.now) (interleaved up_samples.now) first.0 ≡ line_of result.line ++ rest_printed style.form style.has_bits (both_of links.new re.new im.new abs.new up_re.new up_im.new up_abs.new) (drop result.taken (interleaved samples.now)) (drop result.taken (interleaved up_samples.now)) (first.0 +ℤ pos result.taken) }
+) -> Heard
+    ensures step { both_made result links.new past.new.re past.new.im past.new.abs up_past.new.re up_past.new.im up_past.new.abs ≡ both_step style.form style.has_bits (both_of links.old past.old.re past.old.im past.old.abs up_past.old.re up_past.old.im up_past.old.abs) (interleaved samples.now) (interleaved up_samples.now) first.0 }
+    ensures whole { length (interleaved samples.now) ≡ length (interleaved up_samples.now) → rest_printed style.form style.has_bits (both_of links.old past.old.re past.old.im past.old.abs up_past.old.re up_past.old.im up_past.old.abs) (interleaved samples.now) (interleaved up_samples.now) first.0 ≡ line_of result.line ++ rest_printed style.form style.has_bits (both_of links.new past.new.re past.new.im past.new.abs up_past.new.re up_past.new.im up_past.new.abs) (drop result.taken (interleaved samples.now)) (drop result.taken (interleaved up_samples.now)) (first.0 +ℤ pos result.taken) }
 {
     if links.behind == 0 {
-        links.lead(re, im, abs, samples, first, style)
+        links.lead(past, samples, first, style)
     } else {
-        links.catch_up(up_re, up_im, up_abs, up_samples, first, style)
+        links.catch_up(up_past, up_samples, first, style)
     }
 }

@@ -5,11 +5,12 @@ ghost use Rattle.receiver.specs.View.{receiver_of};
 ghost use Rattle.slot_lines.specs.Blocks.{take_next, taken_line, printed, stretch_of, step_of, from_step, step_made};
 
 use dsp_types::{Refusal, SampleCount};
+use history::History;
 use receiver::{State, Stop};
 use slot_text::{Style, slot_line};
 use text::Text;
 
-// How many samples are done with, the refusal of the last of them, and the line of the slot that it handed over.
+// How many samples are done with, of both links where there are two; the refusal of the last that was heard; the line to print.
 #[derive(Clone, Copy)]
 pub struct Heard {
     pub taken: usize,
@@ -40,16 +41,14 @@ fn take_line(state: &mut State, style: Style) -> Text
 // Hears samples up to one that hands a slot over, which is taken, or up to one that is refused.
 fn hear_row(
     state: &mut State,
-    re: &mut [f32; 2048],
-    im: &mut [f32; 2048],
-    abs: &mut [f32; 2048],
+    past: &mut History,
     samples: &[f32],
     first: SampleCount,
     style: Style,
 ) -> Heard
-    ensures { step_made result (receiver_of state.new re.new im.new abs.new) ≡ stretch_of style (receiver_of state.old re.old im.old abs.old) (interleaved samples.now) first.0 }
+    ensures { step_made result (receiver_of state.new past.new.re past.new.im past.new.abs) ≡ stretch_of style (receiver_of state.old past.old.re past.old.im past.old.abs) (interleaved samples.now) first.0 }
 {
-    let fed = state.feed(re, im, abs, samples, first);
+    let fed = state.feed(&mut past.re, &mut past.im, &mut past.abs, samples, first);
     let taken = fed.taken;
     match fed.stop {
         Stop::End => Heard {
@@ -74,24 +73,22 @@ fn hear_row(
 // and printed, or up to one that is refused, for which a zero is heard. What is left of them prints the rest.
 pub fn hear(
     state: &mut State,
-    re: &mut [f32; 2048],
-    im: &mut [f32; 2048],
-    abs: &mut [f32; 2048],
+    past: &mut History,
     samples: &[f32],
     first: SampleCount,
     style: Style,
 ) -> Heard
-    ensures step { step_made result (receiver_of state.new re.new im.new abs.new) ≡ step_of style (receiver_of state.old re.old im.old abs.old) (interleaved samples.now) first.0 }
-    ensures whole { printed style (receiver_of state.old re.old im.old abs.old) (interleaved samples.now) first.0 ≡ from_step style (step_made result (receiver_of state.new re.new im.new abs.new)) (interleaved samples.now) first.0 }
+    ensures step { step_made result (receiver_of state.new past.new.re past.new.im past.new.abs) ≡ step_of style (receiver_of state.old past.old.re past.old.im past.old.abs) (interleaved samples.now) first.0 }
+    ensures whole { printed style (receiver_of state.old past.old.re past.old.im past.old.abs) (interleaved samples.now) first.0 ≡ from_step style (step_made result (receiver_of state.new past.new.re past.new.im past.new.abs)) (interleaved samples.now) first.0 }
     ensures onward { (result.taken ≤ length samples.now / 2) × (0 < length samples.now / 2 → 0 < result.taken) }
 {
-    let row = hear_row(state, re, im, abs, samples, first, style);
+    let row = hear_row(state, past, samples, first, style);
     if row.refusal.is_none() {
         return row;
     }
     let zero = [0.0f32; 2];
     let counter = first.plus(row.taken as i64);
-    let mended = hear_row(state, re, im, abs, &zero, counter, style);
+    let mended = hear_row(state, past, &zero, counter, style);
     Heard {
         taken: row.taken + 1,
         refusal: row.refusal,

@@ -1,9 +1,10 @@
 // A downlink, received alone.
-use crate::input::{Input, first_samples, samples_from};
+use crate::input::{Input, samples_from};
 use crate::options::Options;
 use crate::tally::{Tally, count_of, step_length};
+use history::History;
 use receiver::State;
-use slot_lines::{Heard, Style};
+use slot_lines::{Heard, Style, first_samples};
 use slot_receiver::Mode;
 use slot_text::Link;
 use std::io::Read;
@@ -20,25 +21,17 @@ impl Downlink {
     // Tells what a step from that counter on came to: the receiver's mode, a refused sample, a slot's line.
     fn tell<H: Host>(&mut self, rt: &H, heard: Heard, first: u64) {
         let last = first.wrapping_add(heard.taken as u64).wrapping_sub(1);
-        self.tally.set_mode(rt, self.receiver.slots.mode, last);
+        self.tally.set_mode(rt, self.receiver.slots.mode(), last);
         if heard.refusal.is_some() {
-            self.tally.refuse(rt, false, last);
+            self.tally.refuse(rt, Link::Alone, last);
         }
         if let Some(line) = heard.line {
-            self.tally.print(rt, false, line);
+            self.tally.print(rt, Link::Alone, line);
         }
     }
 
     // Hears a block of samples, re and im in turn.
-    fn hear<H: Host>(
-        &mut self,
-        rt: &H,
-        re: &mut [f32; 2048],
-        im: &mut [f32; 2048],
-        abs: &mut [f32; 2048],
-        parts: &[f32],
-        style: Style,
-    ) {
+    fn hear<H: Host>(&mut self, rt: &H, past: &mut History, parts: &[f32], style: Style) {
         let count = parts.len() / 2;
         let start = self.tally.counter;
         let mut at: usize = 0;
@@ -48,10 +41,10 @@ impl Downlink {
                 break;
             }
             let first = start.wrapping_add(at as u64);
-            let n = step_length(self.receiver, first);
+            let n = step_length(&self.receiver, first);
             let samples = samples_from(parts, at, n);
             let receiver = &mut self.receiver;
-            let heard = slot_lines::hear(receiver, re, im, abs, samples, count_of(first), style);
+            let heard = slot_lines::hear(receiver, past, samples, count_of(first), style);
             at = at.wrapping_add(heard.taken);
             self.tell(rt, heard, first);
         }
@@ -63,9 +56,7 @@ impl Downlink {
 pub(crate) fn receive<H: Host, R: Read + Drop>(rt: &H, from: R, options: Options) {
     let mut block = [0u8; 65536];
     let mut parts = [0.0f32; 16384];
-    let mut re = [0.0f32; 2048];
-    let mut im = [0.0f32; 2048];
-    let mut abs = [0.0f32; 2048];
+    let mut past = History::new();
     let style = Style {
         form: options.form,
         has_bits: options.has_bits,
@@ -84,14 +75,7 @@ pub(crate) fn receive<H: Host, R: Read + Drop>(rt: &H, from: R, options: Options
         input.fill(rt, &mut block, b"tetra_rx: the input cannot be read");
         let n = downlink.tally.room(input.samples());
         input.decode(n, &mut parts);
-        downlink.hear(
-            rt,
-            &mut re,
-            &mut im,
-            &mut abs,
-            first_samples(&parts, n),
-            style,
-        );
+        downlink.hear(rt, &mut past, first_samples(&parts, n), style);
         input.without(n);
     }
     downlink.tally.finish(rt, input.rest(), 0);

@@ -1,9 +1,10 @@
 // A downlink and the uplink beside it.
-use crate::input::{Input, first_samples, samples_from};
+use crate::input::{Input, samples_from};
 use crate::options::Options;
 use crate::tally::{Tally, count_of, step_length};
+use history::History;
 use receiver::State;
-use slot_lines::{Links, LinksHeard, Style};
+use slot_lines::{Heard, Links, Style, first_samples};
 use slot_receiver::Mode;
 use slot_text::Link;
 use std::io::Read;
@@ -30,21 +31,20 @@ impl Both {
 
     // Tells what a step from that counter on came to, of the uplink or of the downlink: a slot's line, a refused sample, and the
     // downlink's mode.
-    fn tell<H: Host>(&mut self, rt: &H, is_up: bool, heard: LinksHeard, first: u64) {
-        let ahead = if is_up {
-            heard.taken
-        } else {
-            self.links.behind
+    fn tell<H: Host>(&mut self, rt: &H, link: Link, heard: Heard, first: u64) {
+        let ahead = match link {
+            Link::Up => heard.taken,
+            Link::Alone | Link::Down => self.links.behind,
         };
         let last = first.wrapping_add(ahead as u64).wrapping_sub(1);
         if let Some(line) = heard.line {
-            self.tally.print(rt, is_up, line);
+            self.tally.print(rt, link, line);
         }
         if heard.refusal.is_some() {
-            self.tally.refuse(rt, is_up, last);
+            self.tally.refuse(rt, link, last);
         }
-        if !is_up {
-            self.tally.set_mode(rt, self.links.down.slots.mode, last);
+        if let Link::Down = link {
+            self.tally.set_mode(rt, self.links.down.slots.mode(), last);
         }
     }
 
@@ -52,12 +52,8 @@ impl Both {
     fn hear<H: Host>(
         &mut self,
         rt: &H,
-        re: &mut [f32; 2048],
-        im: &mut [f32; 2048],
-        abs: &mut [f32; 2048],
-        up_re: &mut [f32; 2048],
-        up_im: &mut [f32; 2048],
-        up_abs: &mut [f32; 2048],
+        past: &mut History,
+        up_past: &mut History,
         parts: &[f32],
         up_parts: &[f32],
         style: Style,
@@ -73,29 +69,24 @@ impl Both {
                 break;
             }
             let first = start.wrapping_add(at as u64);
-            let is_up = 0 < self.links.behind;
-            let n = if is_up {
-                self.links.behind
+            let (link, n) = if 0 < self.links.behind {
+                (Link::Up, self.links.behind)
             } else {
-                step_length(self.links.down, first)
+                (Link::Down, step_length(&self.links.down, first))
             };
             let samples = samples_from(parts, at, n);
             let up_samples = samples_from(up_parts, at, n);
             let heard = slot_lines::hear_links(
                 &mut self.links,
-                re,
-                im,
-                abs,
-                up_re,
-                up_im,
-                up_abs,
+                past,
+                up_past,
                 samples,
                 up_samples,
                 count_of(first),
                 style,
             );
             at = at.wrapping_add(heard.taken);
-            self.tell(rt, is_up, heard, first);
+            self.tell(rt, link, heard, first);
         }
         self.tally.move_on(rt, at, parts);
     }
@@ -115,12 +106,8 @@ pub(crate) fn receive<H: Host, R: Read + Drop>(rt: &H, from: R, up_from: R, opti
     let mut block = [0u8; 65536];
     let mut parts = [0.0f32; 16384];
     let mut up_parts = [0.0f32; 16384];
-    let mut re = [0.0f32; 2048];
-    let mut im = [0.0f32; 2048];
-    let mut abs = [0.0f32; 2048];
-    let mut up_re = [0.0f32; 2048];
-    let mut up_im = [0.0f32; 2048];
-    let mut up_abs = [0.0f32; 2048];
+    let mut past = History::new();
+    let mut up_past = History::new();
     // Whose link is each line's own.
     let style = Style {
         form: options.form,
@@ -146,12 +133,8 @@ pub(crate) fn receive<H: Host, R: Read + Drop>(rt: &H, from: R, up_from: R, opti
         up.decode(n, &mut up_parts);
         both.hear(
             rt,
-            &mut re,
-            &mut im,
-            &mut abs,
-            &mut up_re,
-            &mut up_im,
-            &mut up_abs,
+            &mut past,
+            &mut up_past,
             first_samples(&parts, n),
             first_samples(&up_parts, n),
             style,

@@ -22,11 +22,6 @@ pub struct Input<R> {
     pub is_over: bool,
 }
 
-// The first n samples of all parts, since a part of an array behind a reference cannot be lent.
-pub(crate) fn first_samples(parts: &Parts, n: usize) -> &[f32] {
-    slot_lines::first_samples(parts, n)
-}
-
 // n samples behind the first `from`, or all of them where there are fewer.
 pub(crate) fn samples_from(parts: &[f32], from: usize, n: usize) -> &[f32] {
     let start = from.min(parts.len() / 2);

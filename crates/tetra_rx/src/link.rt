@@ -1,5 +1,6 @@
 // What one link has come to.
 use crate::report;
+use slot_text::Link;
 use streams::Host;
 use text::Text;
 
@@ -15,17 +16,17 @@ struct Untold {
 }
 
 #[derive(Clone, Copy)]
-pub struct Link {
-    is_up: bool,
+pub struct LinkTally {
+    link: Link,
     slots: u64,
     refused: u64,
     untold: Option<Untold>,
 }
 
-impl Link {
-    pub(crate) fn new(is_up: bool) -> Link {
-        Link {
-            is_up,
+impl LinkTally {
+    pub(crate) fn new(link: Link) -> LinkTally {
+        LinkTally {
+            link,
             slots: 0,
             refused: 0,
             untold: None,
@@ -53,7 +54,7 @@ impl Link {
     // Tells the refused samples.
     pub(crate) fn tell<H: Host>(&mut self, rt: &H, is_progress: bool) {
         if let Some(untold) = self.untold.take() {
-            let begun = report::begun(self.is_up, is_progress);
+            let begun = report::begun(self.link, is_progress);
             let count = report::with_count(begun, untold.count, b" sample");
             let from = report::with_number(count, b" refused from ", untold.first);
             let to = report::with_number(from, b" to ", untold.last);

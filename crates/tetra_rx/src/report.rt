@@ -1,5 +1,6 @@
 // What is told on standard error.
-use crate::tally::Mode;
+use slot_receiver::Mode;
+use slot_text::Link;
 use streams::Host;
 use text::Text;
 
@@ -9,17 +10,16 @@ pub(crate) fn clear<H: Host>(rt: &H) {
 }
 
 // Where a report begins, of the downlink or of an uplink beside it. It takes the place of a progress line.
-pub(crate) fn begun(is_up: bool, is_progress: bool) -> Text {
+pub(crate) fn begun(link: Link, is_progress: bool) -> Text {
     let start = Text::new();
     let line = if is_progress {
         start.append(b"\r\x1b[Ktetra_rx: ")
     } else {
         start.append(b"tetra_rx: ")
     };
-    if is_up {
-        line.append(b"uplink: ")
-    } else {
-        line
+    match link {
+        Link::Up => line.append(b"uplink: "),
+        Link::Alone | Link::Down => line,
     }
 }
 
@@ -38,10 +38,11 @@ pub(crate) fn with_count(text: Text, n: u64, what: &[u8]) -> Text {
     }
 }
 
+// What a downlink's receiver does.
 pub(crate) fn with_mode(text: Text, mode: Mode) -> Text {
     match mode {
-        Mode::Locked => text.append(b"locked"),
-        Mode::Searching => text.append(b"searching"),
+        Mode::Dl => text.append(b"locked"),
+        _ => text.append(b"searching"),
     }
 }
 

@@ -1,9 +1,11 @@
 // What a run has come to, and what is told of it.
-use crate::link::Link;
+use crate::link::LinkTally;
 use crate::options::Options;
 use crate::report;
 use dsp_types::{COUNTERS, SampleCount};
 use receiver::State;
+use slot_receiver::Mode;
+use slot_text::Link;
 use std::io::IsTerminal;
 use streams::Host;
 use text::Text;
@@ -13,24 +15,6 @@ const SECOND: u64 = 72000;
 
 const MINUTE: u64 = 60 * SECOND;
 
-// What the downlink's receiver does.
-#[derive(Clone, Copy, Debug, PartialEq, Eq)]
-pub(crate) enum Mode {
-    Searching,
-    Locked,
-}
-
-// A receiver keeps its mode as a number, for C: a downlink's is 1 or 2.
-impl From<u8> for Mode {
-    fn from(number: u8) -> Mode {
-        if number == 2 {
-            Mode::Locked
-        } else {
-            Mode::Searching
-        }
-    }
-}
-
 // A counter as the receiver takes it.
 pub(crate) fn count_of(counter: u64) -> SampleCount {
     SampleCount((counter % 0x8000_0000_0000_0000) as i64)
@@ -38,8 +22,8 @@ pub(crate) fn count_of(counter: u64) -> SampleCount {
 
 // How many samples from that counter on the downlink is given in a step: while it searches, none behind the one at which its
 // window closes, so that a step ends where it locks. A loss comes with a slot, which ends a step anyway.
-pub(crate) fn step_length(down: State, counter: u64) -> usize {
-    if Mode::from(down.slots.mode) == Mode::Searching {
+pub(crate) fn step_length(down: &State, counter: u64) -> usize {
+    if down.slots.mode() == Mode::DlUnsynchronized {
         down.slots.quiet_samples(count_of(counter)).wrapping_add(1)
     } else {
         usize::MAX
@@ -62,8 +46,8 @@ pub struct Tally {
     is_advised: bool,
     // When the progress line is written next.
     next: u64,
-    down: Link,
-    up: Option<Link>,
+    down: LinkTally,
+    up: Option<LinkTally>,
 }
 
 impl Tally {
@@ -77,19 +61,18 @@ impl Tally {
             is_quiet: options.is_quiet,
             is_progress,
             is_shared,
-            mode: Mode::Searching,
+            mode: Mode::DlUnsynchronized,
             since: 0,
             is_advised: false,
             next: SECOND,
-            down: Link::new(false),
-            up: options.uplink.map(|_| Link::new(true)),
+            down: LinkTally::new(Link::Down),
+            up: options.uplink.map(|_| LinkTally::new(Link::Up)),
         }
     }
 
     // The mode that the downlink is in behind the sample with that counter, the last of a step: where the mode has changed, a
     // window closed at this sample.
-    pub(crate) fn set_mode<H: Host>(&mut self, rt: &H, number: u8, counter: u64) {
-        let mode = Mode::from(number);
+    pub(crate) fn set_mode<H: Host>(&mut self, rt: &H, mode: Mode, counter: u64) {
         if mode == self.mode {
             return;
         }
@@ -97,7 +80,7 @@ impl Tally {
         self.since = counter;
         self.is_advised = false;
         if !self.is_quiet {
-            let begun = report::with_mode(report::begun(false, self.is_progress), mode);
+            let begun = report::with_mode(report::begun(Link::Down, self.is_progress), mode);
             report::tell(
                 rt,
                 report::with_number(begun, b" at sample ", counter),
@@ -106,17 +89,16 @@ impl Tally {
         }
     }
 
-    // A link that there is.
-    fn link(&mut self, is_up: bool) -> Option<&mut Link> {
-        if is_up {
-            self.up.as_mut()
-        } else {
-            Some(&mut self.down)
+    // What a link that there is has come to.
+    fn tally_of(&mut self, link: Link) -> Option<&mut LinkTally> {
+        match link {
+            Link::Up => self.up.as_mut(),
+            Link::Alone | Link::Down => Some(&mut self.down),
         }
     }
 
     // A slot more, whose line is printed.
-    pub(crate) fn print<H: Host>(&mut self, rt: &H, is_up: bool, line: Text) {
+    pub(crate) fn print<H: Host>(&mut self, rt: &H, link: Link, line: Text) {
         if self.is_shared {
             report::clear(rt);
         }
@@ -124,29 +106,29 @@ impl Tally {
             program::fail(rt, b"tetra_rx", b"the lines cannot be written", error);
             self.is_open = false;
         }
-        if let Some(link) = self.link(is_up) {
-            link.count_slot();
+        if let Some(tally) = self.tally_of(link) {
+            tally.count_slot();
         }
     }
 
     // A refused sample.
-    pub(crate) fn refuse<H: Host>(&mut self, rt: &H, is_up: bool, counter: u64) {
+    pub(crate) fn refuse<H: Host>(&mut self, rt: &H, link: Link, counter: u64) {
         let is_progress = self.is_progress;
-        if let Some(link) = self.link(is_up) {
-            link.tell_by(rt, counter, is_progress);
-            link.refuse(counter);
+        if let Some(tally) = self.tally_of(link) {
+            tally.tell_by(rt, counter, is_progress);
+            tally.refuse(counter);
         }
     }
 
     // After a minute of search without a lock.
     fn advise<H: Host>(&mut self, rt: &H) {
         let searched = self.counter.wrapping_sub(self.since);
-        if self.is_quiet || self.is_advised || self.mode == Mode::Locked || searched < MINUTE {
+        if self.is_quiet || self.is_advised || self.mode == Mode::Dl || searched < MINUTE {
             return;
         }
         report::tell(
             rt,
-            report::begun(false, self.is_progress),
+            report::begun(Link::Down, self.is_progress),
             b"no lock for a minute: is the carrier within 1,600 Hz of 0, are there 72,000 samples a second, are I and Q exchanged?\n",
         );
         self.is_advised = true;
@@ -157,7 +139,7 @@ impl Tally {
         if !self.is_progress || self.counter < self.next {
             return;
         }
-        let samples = report::with_count(report::begun(false, true), self.counter, b" sample");
+        let samples = report::with_count(report::begun(Link::Down, true), self.counter, b" sample");
         let slots = self.down.with_slots(samples.append(b", "));
         let level = report::with_level(slots.append(b", "), iq_format::level(parts));
         let mode = report::with_mode(level.append(b", "), self.mode);
@@ -184,7 +166,7 @@ impl Tally {
         }
         report::tell(
             rt,
-            report::begun(false, self.is_progress),
+            report::begun(Link::Down, self.is_progress),
             b"no more samples, the counter is at its end\n",
         );
         self.is_open = false;
@@ -196,10 +178,10 @@ impl Tally {
     }
 
     // The bytes of half a sample are told.
-    fn tell_rest<H: Host>(self, rt: &H, is_up: bool, rest: usize) {
+    fn tell_rest<H: Host>(self, rt: &H, link: Link, rest: usize) {
         if rest > 0 {
             let line = report::with_count(
-                report::begun(is_up, self.is_progress),
+                report::begun(link, self.is_progress),
                 rest as u64,
                 b" byte",
             );
@@ -210,7 +192,7 @@ impl Tally {
     // The uplink is at its end before the downlink.
     pub(crate) fn tell_uplink_end<H: Host>(self, rt: &H) {
         let line = report::with_number(
-            report::begun(true, self.is_progress),
+            report::begun(Link::Up, self.is_progress),
             b"ends at sample ",
             self.counter,
         );
@@ -223,20 +205,20 @@ impl Tally {
         if let Some(up) = &mut self.up {
             up.tell(rt, self.is_progress);
         }
-        self.tell_rest(rt, false, rest);
-        self.tell_rest(rt, true, up_rest);
+        self.tell_rest(rt, Link::Down, rest);
+        self.tell_rest(rt, Link::Up, up_rest);
         if !self.is_quiet {
             self.summary(rt);
         }
     }
 
     fn summary<H: Host>(self, rt: &H) {
-        let begun = report::begun(false, self.is_progress);
+        let begun = report::begun(Link::Down, self.is_progress);
         let samples = report::with_count(begun, self.counter, b" sample");
         let slots = self.down.summary(samples.append(b", "));
         report::tell(rt, report::with_mode(slots.append(b", "), self.mode), b"\n");
         if let Some(up) = self.up {
-            report::tell(rt, up.summary(report::begun(true, false)), b"\n");
+            report::tell(rt, up.summary(report::begun(Link::Up, false)), b"\n");
         }
     }
 }
