@@ -14,8 +14,13 @@ use text::Text;
 // Those that calls have made.
 pub(crate) type Receivers = [Option<Demodulator>; 4];
 
-// The bytes that are lent to a take.
-type Lent = [u8; 4096];
+// The bytes that are lent to a take of a slot and of its halves.
+#[derive(Drop)]
+struct Lent {
+    slot: [u8; 4096],
+    half1: [u8; 4096],
+    half2: [u8; 4096],
+}
 
 // The number of a receiver or a mode, 0 to 3, in field k.
 fn low(line: &[u8], k: usize) -> Option<usize>
@@ -25,7 +30,7 @@ fn low(line: &[u8], k: usize) -> Option<usize>
 }
 
 // The first of the lent bytes, as many as field k says, where there are so many.
-fn front<'a>(lent: &'a mut Lent, line: &[u8], k: usize) -> Option<&'a mut [u8]> {
+fn front<'a>(lent: &'a mut [u8; 4096], line: &[u8], k: usize) -> Option<&'a mut [u8]> {
     lent.get_mut(..number(line, k)? as usize)
 }
 
@@ -34,7 +39,7 @@ fn is_all(bytes: &[u8], byte: u8) -> bool {
 }
 
 // The text with type, errors and bits of a burst behind it.
-fn with_burst(text: Text, told: RxBurst, lent: &Lent) -> Text {
+fn with_burst(text: Text, told: RxBurst, lent: &[u8]) -> Text {
     let kind = with_number(text, told.train_type as u64);
     let start = with_number(kind, told.train_errs as u64);
     if told.burst_len == 0 {
@@ -44,7 +49,7 @@ fn with_burst(text: Text, told: RxBurst, lent: &Lent) -> Text {
 }
 
 // Whether the bytes behind a burst in a slice of that length are 0.
-fn is_padded(told: RxBurst, lent: &Lent, len: usize) -> bool {
+fn is_padded(told: RxBurst, lent: &[u8], len: usize) -> bool {
     is_all(field::behind(text::front(lent, len), told.burst_len), 0)
 }
 
@@ -58,37 +63,40 @@ fn slot_number(told: RxSlot, has_counter: bool) -> Text {
     }
 }
 
-fn slot_text(told: RxSlot, has_counter: bool, slot: &Lent, half1: &Lent, half2: &Lent) -> Text {
-    let full = with_burst(slot_number(told, has_counter), told.full, slot);
-    let first = with_burst(full, told.subslot1, half1);
-    with_burst(first, told.subslot2, half2).append(b"\n")
-}
-
-// The answer to a take, whose lent bytes were 7 before.
-fn taken(
-    answer: Result<RxSlot, Refusal>,
-    has_counter: bool,
-    slot: &Lent,
-    half1: &Lent,
-    half2: &Lent,
-) -> Text {
-    match answer {
-        Ok(told) => {
-            if is_padded(told.full, slot, 510)
-                && is_padded(told.subslot1, half1, 254)
-                && is_padded(told.subslot2, half2, 254)
-            {
-                slot_text(told, has_counter, slot, half1, half2)
-            } else {
-                error()
-            }
+impl Lent {
+    fn new() -> Lent {
+        Lent {
+            slot: [7; 4096],
+            half1: [7; 4096],
+            half2: [7; 4096],
         }
-        Err(refusal) => {
-            if is_all(slot, 7) && is_all(half1, 7) && is_all(half2, 7) {
-                refused(refusal)
-            } else {
-                error()
-            }
+    }
+
+    // Whether a take has written nothing.
+    fn is_new(&self) -> bool {
+        is_all(&self.slot, 7) && is_all(&self.half1, 7) && is_all(&self.half2, 7)
+    }
+
+    // Whether the bytes behind each burst are 0.
+    fn is_padded(&self, told: RxSlot) -> bool {
+        is_padded(told.full, &self.slot, 510)
+            && is_padded(told.subslot1, &self.half1, 254)
+            && is_padded(told.subslot2, &self.half2, 254)
+    }
+
+    // The text with the slot's bursts behind it.
+    fn behind(&self, text: Text, told: RxSlot) -> Text {
+        let full = with_burst(text, told.full, &self.slot);
+        let first = with_burst(full, told.subslot1, &self.half1);
+        with_burst(first, told.subslot2, &self.half2).append(b"\n")
+    }
+
+    // The answer to a take.
+    fn taken(&self, answer: Result<RxSlot, Refusal>, has_counter: bool) -> Text {
+        match answer {
+            Ok(told) if self.is_padded(told) => self.behind(slot_number(told, has_counter), told),
+            Err(refusal) if self.is_new() => refused(refusal),
+            _ => error(),
         }
     }
 }
@@ -107,15 +115,13 @@ fn sample(receiver: &mut Demodulator, line: &[u8]) -> Option<Text> {
 }
 
 fn take(receiver: &mut Demodulator, line: &[u8], has_counter: bool) -> Option<Text> {
-    let mut slot = [7u8; 4096];
-    let mut half1 = [7u8; 4096];
-    let mut half2 = [7u8; 4096];
+    let mut lent = Lent::new();
     let answer = receiver.take_demodulated_slot(
-        front(&mut slot, line, 2)?,
-        front(&mut half1, line, 3)?,
-        front(&mut half2, line, 4)?,
+        front(&mut lent.slot, line, 2)?,
+        front(&mut lent.half1, line, 3)?,
+        front(&mut lent.half2, line, 4)?,
     );
-    Some(taken(answer, has_counter, &slot, &half1, &half2))
+    Some(lent.taken(answer, has_counter))
 }
 
 // Makes the call of a line, if it is one on receivers that are made, or makes one.
@@ -127,19 +133,19 @@ pub(crate) fn serve(receivers: &mut Receivers, line: &[u8]) -> Option<Text> {
         receivers[r] = Some(Demodulator::new(Mode::from(mode)));
         return Some(ok());
     }
-    let called = receivers[r];
-    let mut receiver = called?;
-    let answer = match (fields, letter(line, 0)?) {
-        (3, b'f') => {
-            let leader = receivers[low(line, 2)?];
-            told(receiver.sync_to_demodulator(&leader?), ok())
-        }
-        (5, b's') => sample(&mut receiver, line)?,
-        (5, b't') => take(&mut receiver, line, false)?,
+    let name = letter(line, 0)?;
+    if fields == 3 && name == b'f' {
+        // The leader may be the receiver itself.
+        let leader = receivers[low(line, 2)?]?;
+        let answer = receivers[r].as_mut()?.sync_to_demodulator(&leader);
+        return Some(told(answer, ok()));
+    }
+    let receiver = receivers[r].as_mut()?;
+    match (fields, name) {
+        (5, b's') => sample(receiver, line),
+        (5, b't') => take(receiver, line, false),
         // Told with its slot's closing counter.
-        (5, b'T') => take(&mut receiver, line, true)?,
-        _ => return None,
-    };
-    receivers[r] = Some(receiver);
-    Some(answer)
+        (5, b'T') => take(receiver, line, true),
+        _ => None,
+    }
 }

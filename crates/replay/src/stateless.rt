@@ -34,41 +34,28 @@ fn build(line: &[u8], values: &Block) -> Option<Text> {
     }))
 }
 
-// The logger's call with so many answer bytes, of which there are enough.
-fn judge_with(kind: u32, bits: &[u8], answer: &mut [u8], len: usize) -> Result<(), Refusal> {
-    if len <= answer.len() {
-        logger::judge(kind, bits, &mut answer[..len])
-    } else {
-        Err(Refusal::BadLength)
-    }
-}
-
 // The number of two bytes, the low one first.
 fn number_of(low: u8, high: u8) -> u64 {
     u64::from(u16::from_le_bytes([low, high]))
 }
 
-fn judged(kind: u32, bits: &[u8], len: usize) -> Text {
+// The logger's call with so many answer bytes, where there are so many.
+fn judged(kind: u32, bits: &[u8], len: usize) -> Option<Text> {
     let mut answer = [0u8; 4096];
-    if let Err(refusal) = judge_with(kind, bits, &mut answer, len) {
-        return refused(refusal);
+    if let Err(refusal) = logger::judge(kind, bits, answer.get_mut(..len)?) {
+        return Some(refused(refusal));
     }
     let burst = with_number(Text::new().append(b"judged"), u64::from(answer[0]));
     let errors = with_number(burst, u64::from(answer[1]));
     let place = with_number(errors, number_of(answer[2], answer[3]));
-    with_number(place, number_of(answer[4], answer[5])).append(b"\n")
+    Some(with_number(place, number_of(answer[4], answer[5])).append(b"\n"))
 }
 
 // Has bits judged.
 fn judge(line: &[u8], values: &Block) -> Option<Text> {
     let kind = number(line, 1)?;
     let len = number(line, 2)? as usize;
-    let bits = bits(line, values, 3)?;
-    if len <= 4096 {
-        Some(judged(kind, bits, len))
-    } else {
-        None
-    }
+    judged(kind, bits(line, values, 3)?, len)
 }
 
 // The answer to a line, of which the block has the digits' values, if it is a call.
