@@ -94,11 +94,13 @@ pub(crate) fn bits<'a>(line: &[u8], values: &'a Block, k: usize) -> Option<&'a [
     Some(values_of(line, values, k, digits(line, k)?.len()))
 }
 
-// Puts the values of a line's digits into a block.
-pub(crate) fn put(block: &mut Block, line: &[u8]) {
+// The block of a line, which is no longer than that.
+pub(crate) fn values(line: &[u8]) -> Block {
+    let mut block = [0; 65536];
     for (value, byte) in block.iter_mut().zip(line) {
         *value = byte.wrapping_sub(b'0');
     }
+    block
 }
 
 fn hex_digit(byte: u8) -> u8 {

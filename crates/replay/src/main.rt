@@ -17,7 +17,6 @@ mod uplink;
 use answer::error;
 use input::Line;
 use output::Output;
-use receivers::{Receivers, serve};
 use session::Session;
 use std::io::Read;
 use streams::Host;
@@ -25,7 +24,6 @@ use streams::Host;
 // What the calls work on, and their answers.
 #[derive(Drop)]
 struct Replayer {
-    receivers: Receivers,
     session: Session,
     out: Output,
 }
@@ -33,11 +31,7 @@ struct Replayer {
 impl Replayer {
     // Makes the call of a line.
     fn call<H: Host>(&mut self, rt: &H, line: &[u8]) {
-        let answer = match serve(&mut self.receivers, line) {
-            Some(answer) => answer,
-            None => self.session.step(line).unwrap_or(error()),
-        };
-        self.out.add(rt, answer);
+        self.out.add(rt, self.session.step(line).unwrap_or(error()));
     }
 
     // Makes the calls of the lines that end in these bytes.
@@ -57,7 +51,6 @@ fn run<H: Host, R: Read>(rt: &H, from: &mut R) {
     let mut block = [0u8; 65536];
     let mut line = Line::new();
     let mut replayer = Replayer {
-        receivers: [None; 4],
         session: Session::new(),
         out: Output::new(),
     };

@@ -3,10 +3,9 @@ ghost use Rattle.std.specs.Prelude.{IfSome, ◌<◌};
 
 use crate::answer::{error, ok, refused, with_number};
 use crate::field;
-use crate::field::{count, counter, field, letter, number};
+use crate::field::{counter, number};
 use demodulator::Demodulator;
 use dsp_types::{Refusal, unsigned};
-use program::is_word;
 use rx_slot::{RxBurst, RxSlot};
 use slot_receiver::Mode;
 use text::Text;
@@ -109,43 +108,37 @@ fn told(answer: Result<(), Refusal>, accepted: Text) -> Text {
     }
 }
 
-fn sample(receiver: &mut Demodulator, line: &[u8]) -> Option<Text> {
+// The receiver of a line, where it was made.
+fn receiver<'a>(receivers: &'a mut Receivers, line: &[u8]) -> Option<&'a mut Demodulator> {
+    receivers[low(line, 1)?].as_mut()
+}
+
+pub(crate) fn renew(receivers: &mut Receivers, line: &[u8]) -> Option<Text> {
+    let mode = Mode::from(low(line, 2)? as u32);
+    receivers[low(line, 1)?] = Some(Demodulator::new(mode));
+    Some(ok())
+}
+
+// The leader may be the receiver itself.
+pub(crate) fn follow(receivers: &mut Receivers, line: &[u8]) -> Option<Text> {
+    let leader = receivers[low(line, 2)?]?;
+    let answer = receiver(receivers, line)?.sync_to_demodulator(&leader);
+    Some(told(answer, ok()))
+}
+
+pub(crate) fn sample(receivers: &mut Receivers, line: &[u8]) -> Option<Text> {
+    let receiver = receiver(receivers, line)?;
     let answer = receiver.sample(field::sample(line, 3)?, counter(line, 2)?);
     Some(told(answer, Text::new()))
 }
 
-fn take(receiver: &mut Demodulator, line: &[u8], has_counter: bool) -> Option<Text> {
+// Takes a slot, told with its closing counter or without.
+pub(crate) fn take(receivers: &mut Receivers, line: &[u8], has_counter: bool) -> Option<Text> {
     let mut lent = Lent::new();
-    let answer = receiver.take_demodulated_slot(
+    let answer = receiver(receivers, line)?.take_demodulated_slot(
         front(&mut lent.slot, line, 2)?,
         front(&mut lent.half1, line, 3)?,
         front(&mut lent.half2, line, 4)?,
     );
     Some(lent.taken(answer, has_counter))
-}
-
-// Makes the call of a line, if it is one on receivers that are made, or makes one.
-pub(crate) fn serve(receivers: &mut Receivers, line: &[u8]) -> Option<Text> {
-    let fields = count(line);
-    let r = low(line, 1)?;
-    if fields == 3 && is_word(field(line, 0), b"new") {
-        let mode = low(line, 2)? as u32;
-        receivers[r] = Some(Demodulator::new(Mode::from(mode)));
-        return Some(ok());
-    }
-    let name = letter(line, 0)?;
-    if fields == 3 && name == b'f' {
-        // The leader may be the receiver itself.
-        let leader = receivers[low(line, 2)?]?;
-        let answer = receivers[r].as_mut()?.sync_to_demodulator(&leader);
-        return Some(told(answer, ok()));
-    }
-    let receiver = receivers[r].as_mut()?;
-    match (fields, name) {
-        (5, b's') => sample(receiver, line),
-        (5, b't') => take(receiver, line, false),
-        // Told with its slot's closing counter.
-        (5, b'T') => take(receiver, line, true),
-        _ => None,
-    }
 }
