@@ -34,7 +34,8 @@ impl Replayer {
         self.out.add(rt, self.session.step(line).unwrap_or(error()));
     }
 
-    // Makes the calls of the lines that end in these bytes.
+    // Makes the calls of the lines that end in these bytes. (tetra_tx parts lines so too: one function for both would have to
+    // be given how each keeps, clears and reads its line, and be no plainer.)
     fn calls<H: Host>(&mut self, rt: &H, line: &mut Line, bytes: &[u8]) {
         for byte in bytes {
             if *byte == b'\n' {
@@ -48,31 +49,18 @@ impl Replayer {
 }
 
 fn run<H: Host, R: Read>(rt: &H, from: &mut R) {
-    let mut block = [0u8; 65536];
     let mut line = Line::new();
     let mut replayer = Replayer {
         session: Session::new(),
         out: Output::new(),
     };
-    // A proved loop has to end, and nothing says that the input does: it counts to a number that no run reaches.
-    for _ in 0..u64::MAX {
-        if replayer.out.is_broken {
-            break;
-        }
-        let Some(n) = streams::read_or_tell(
-            rt,
-            from,
-            &mut block,
-            b"replay: the input cannot be read",
-        ) else {
-            // What was read of a line before that is no line.
-            line.clear();
-            break;
-        };
-        if n == 0 {
-            break;
-        }
-        replayer.calls(rt, &mut line, &block[..n]);
+    let is_read = program::read_blocks(rt, from, b"replay: the input cannot be read", |block| {
+        replayer.calls(rt, &mut line, block);
+        !replayer.out.is_broken
+    });
+    if !is_read {
+        // What was read of a line before that is no line.
+        line.clear();
     }
     // No newline ends the last line.
     if !line.is_empty() {
