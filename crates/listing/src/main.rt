@@ -15,25 +15,15 @@ fn list<H: Host>(rt: &H, input: &Input) {
     );
 }
 
-// A proved loop has to end, and nothing says that an input does: it counts to a number that no run reaches.
 fn read_all<H: Host, R: Read>(rt: &H, from: &mut R) {
     let mut input = Input::new();
-    for _ in 0..u64::MAX {
-        let mut buffer = [0u8; 4096];
-        let Some(n) = streams::read_or_tell(
-            rt,
-            from,
-            &mut buffer,
-            b"listing: the input cannot be read",
-        ) else {
-            return;
-        };
-        if n == 0 {
-            break;
-        }
-        input.feed(&buffer[..n]);
+    let is_read = program::read_blocks(rt, from, b"listing: the input cannot be read", |block| {
+        input.feed(block);
+        true
+    });
+    if is_read {
+        list(rt, &input);
     }
-    list(rt, &input);
 }
 
 fn main(rt: HostRuntime) {

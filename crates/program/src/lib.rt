@@ -7,6 +7,7 @@ mod words;
 pub use source::Source;
 use std::env::FillError;
 use std::fmt::InlineText;
+use std::io::Read;
 use std::{fmt, fs, io};
 use streams::Host;
 use text::Text;
@@ -133,4 +134,27 @@ pub fn input<H: Host>(rt: &H, program: &[u8], text: &[u8]) -> Option<Source<H::F
         Err(wrong) => refuse(rt, program, wrong),
     }
     None
+}
+
+// Gives what is read to a function, a block at a time, until that wants no more or the input ends. The answer is false, and
+// a line on standard error tells why, where the input cannot be read.
+pub fn read_blocks<H: Host, R: Read, F: FnMut(&[u8]) -> bool>(
+    rt: &H,
+    from: &mut R,
+    what: &[u8],
+    mut take: F,
+) -> bool
+    requires { (f : _) (x : _) → F.pre f x }
+{
+    let mut block = [0u8; 65536];
+    // A proved loop has to end, and nothing says that an input does: it counts to a number that no run reaches.
+    for _ in 0..u64::MAX {
+        let Some(n) = streams::read_or_tell(rt, from, &mut block, what) else {
+            return false;
+        };
+        if n == 0 || !take(&block[..n]) {
+            return true;
+        }
+    }
+    true
 }

@@ -64,7 +64,8 @@ pub fn is_word(word: &[u8], that: &[u8]) -> bool
     word == that
 }
 
-// What a word is where options may stand.
+// What a word is where options may stand. (A match on the words was tried: it tests byte by byte, and the proof did not close
+// where none is met, twenty ways to get there.)
 #[tactic(auto, unfolding(crate::specs::Words::kind_of_word, text::specs::Text::ascii))]
 fn kind_of(word: &[u8]) -> Kind
     ensures { result ≡ kind_of_word word.now }

@@ -24,15 +24,12 @@ fn start_of(line: &[u8], k: usize) -> usize {
 
 // The bytes from a place on; none where there are fewer.
 pub(crate) fn behind(bytes: &[u8], at: usize) -> &[u8] {
-    if at < bytes.len() { &bytes[at..] } else { b"" }
+    bytes.get(at..).unwrap_or_default()
 }
 
 // Field k; nothing where the line has fewer.
 pub(crate) fn field(line: &[u8], k: usize) -> &[u8] {
-    match line.split(|byte| *byte == b' ').nth(k) {
-        Some(text) => text,
-        None => b"",
-    }
+    line.split(|byte| *byte == b' ').nth(k).unwrap_or_default()
 }
 
 // The byte of a field that has no other.
@@ -43,90 +40,48 @@ pub(crate) fn letter(line: &[u8], k: usize) -> Option<u8> {
     }
 }
 
-fn digit_of(byte: u8) -> Option<u8> {
-    match byte {
-        b'0'..=b'9' => Some(byte - b'0'),
-        b'a'..=b'f' => Some(byte - b'a' + 10),
-        b'A'..=b'F' => Some(byte - b'A' + 10),
-        _ => None,
-    }
-}
-
-// The number that digits of a base are.
-fn value_of(text: &[u8], base: u8) -> Option<u64> {
-    let mut value: u64 = 0;
-    for byte in text {
-        let digit = digit_of(*byte)?;
-        if base <= digit {
-            return None;
-        }
-        value = value
-            .checked_mul(u64::from(base))?
-            .checked_add(u64::from(digit))?;
-    }
-    Some(value)
-}
-
-fn decimal(text: &[u8]) -> Option<u64> {
-    if text.is_empty() {
-        None
-    } else {
-        value_of(text, 10)
-    }
+// Field k as std reads a number, but without the `+` that std takes before one.
+fn number_text(line: &[u8], k: usize) -> Option<&str> {
+    str::from_utf8(field(line, k))
+        .ok()
+        .filter(|text| !text.starts_with('+'))
 }
 
 // The decimal u32 in field k: no call takes a larger number.
 pub(crate) fn number(line: &[u8], k: usize) -> Option<u32> {
-    u32::try_from(decimal(field(line, k))?).ok()
-}
-
-// The decimal i64 that a text is.
-fn signed(text: &[u8]) -> Option<i64> {
-    match text.strip_prefix(b"-") {
-        Some(size) => 0i64.checked_sub_unsigned(decimal(size)?),
-        None => i64::try_from(decimal(text)?).ok(),
-    }
+    number_text(line, k)?.parse().ok()
 }
 
 // The decimal i64 in field k.
 pub(crate) fn counter(line: &[u8], k: usize) -> Option<SampleCount> {
-    Some(SampleCount(signed(field(line, k))?))
+    Some(SampleCount(number_text(line, k)?.parse().ok()?))
 }
 
-// An f32's bit pattern, 8 hexadecimal digits.
-fn pattern(text: &[u8]) -> Option<u32> {
-    if text.len() != 8 {
-        return None;
-    }
-    u32::try_from(value_of(text, 16)?).ok()
+// The f32 in field k, whose bit pattern is 8 hexadecimal digits.
+fn part(line: &[u8], k: usize) -> Option<f32> {
+    let digits = number_text(line, k).filter(|digits| digits.len() == 8)?;
+    Some(iq_format::float(u32::from_str_radix(digits, 16).ok()?))
 }
 
 // The sample whose parts are fields k and k + 1.
 pub(crate) fn sample(line: &[u8], k: usize) -> Option<ComplexSample> {
     Some(ComplexSample {
-        re: iq_format::float(pattern(field(line, k))?),
-        im: iq_format::float(pattern(field(line, k.wrapping_add(1)))?),
+        re: part(line, k)?,
+        im: part(line, k.wrapping_add(1))?,
     })
 }
 
 // The digits in field k, behind its `=`.
 pub(crate) fn digits(line: &[u8], k: usize) -> Option<&[u8]> {
-    let text = field(line, k).strip_prefix(b"=")?;
-    if text.iter().all(|byte| byte.is_ascii_digit()) {
-        Some(text)
-    } else {
-        None
-    }
+    field(line, k)
+        .strip_prefix(b"=")
+        .filter(|text| text.iter().all(|byte| byte.is_ascii_digit()))
 }
 
 // The pairs of hexadecimal digits in field k, behind its `#`.
 fn hex(line: &[u8], k: usize) -> Option<&[u8]> {
-    let text = field(line, k).strip_prefix(b"#")?;
-    if text.len() % 2 == 0 && text.iter().all(|byte| byte.is_ascii_hexdigit()) {
-        Some(text)
-    } else {
-        None
-    }
+    field(line, k).strip_prefix(b"#").filter(|text| text.len() % 2 == 0
+        && text.iter().all(|byte| byte.is_ascii_hexdigit()))
 }
 
 // So many of the values behind the mark of field k, where the block has those of the whole line.
@@ -139,33 +94,33 @@ pub(crate) fn bits<'a>(line: &[u8], values: &'a Block, k: usize) -> Option<&'a [
     Some(values_of(line, values, k, digits(line, k)?.len()))
 }
 
-// Puts a byte at a place of a block, where it has that.
-fn put_byte(block: &mut Block, at: usize, byte: u8) {
-    if let Some(place) = block.get_mut(at) {
-        *place = byte;
+// The block of a line, which is no longer than that.
+pub(crate) fn values(line: &[u8]) -> Block {
+    let mut block = [0; 65536];
+    for (value, byte) in block.iter_mut().zip(line) {
+        *value = byte.wrapping_sub(b'0');
     }
+    block
 }
 
-// Puts the values of a line's digits into a block.
-pub(crate) fn put(block: &mut Block, line: &[u8]) {
-    for (i, byte) in line.iter().enumerate() {
-        put_byte(block, i, byte.wrapping_sub(b'0'));
-    }
+fn hex_digit(byte: u8) -> u8 {
+    char::from(byte).to_digit(16).unwrap_or_default() as u8
 }
 
-// Puts the byte of each pair of hexadecimal digits into a block, from a place on.
-fn put_pairs(block: &mut Block, at: usize, text: &[u8]) {
+// Puts the byte of each pair of hexadecimal digits.
+fn put_pairs(bytes: &mut [u8], text: &[u8]) {
     let (pairs, _) = text.as_chunks::<2>();
-    for (i, [high, low]) in pairs.iter().enumerate() {
-        let byte = digit_of(*high).unwrap_or(0) << 4 | digit_of(*low).unwrap_or(0);
-        put_byte(block, at.wrapping_add(i), byte);
+    for (byte, [high, low]) in bytes.iter_mut().zip(pairs) {
+        *byte = hex_digit(*high) << 4 | hex_digit(*low);
     }
 }
 
 // Puts the bytes of field k, where its digits are hexadecimal, in the place of the digits' values.
 pub(crate) fn put_bytes(line: &[u8], values: &mut Block, k: usize) {
-    if let Some(text) = hex(line, k) {
-        put_pairs(values, start_of(line, k).wrapping_add(1), text);
+    if let Some(text) = hex(line, k)
+        && let Some(bytes) = values.get_mut(start_of(line, k).wrapping_add(1)..)
+    {
+        put_pairs(bytes, text);
     }
 }
 

@@ -17,7 +17,6 @@ mod uplink;
 use answer::error;
 use input::Line;
 use output::Output;
-use receivers::{Receivers, serve};
 use session::Session;
 use std::io::Read;
 use streams::Host;
@@ -25,7 +24,6 @@ use streams::Host;
 // What the calls work on, and their answers.
 #[derive(Drop)]
 struct Replayer {
-    receivers: Receivers,
     session: Session,
     out: Output,
 }
@@ -33,14 +31,11 @@ struct Replayer {
 impl Replayer {
     // Makes the call of a line.
     fn call<H: Host>(&mut self, rt: &H, line: &[u8]) {
-        let answer = match serve(&mut self.receivers, line) {
-            Some(answer) => answer,
-            None => self.session.step(line).unwrap_or(error()),
-        };
-        self.out.add(rt, answer);
+        self.out.add(rt, self.session.step(line).unwrap_or(error()));
     }
 
-    // Makes the calls of the lines that end in these bytes.
+    // Makes the calls of the lines that end in these bytes. (tetra_tx parts lines so too: one function for both would have to
+    // be given how each keeps, clears and reads its line, and be no plainer.)
     fn calls<H: Host>(&mut self, rt: &H, line: &mut Line, bytes: &[u8]) {
         for byte in bytes {
             if *byte == b'\n' {
@@ -54,32 +49,18 @@ impl Replayer {
 }
 
 fn run<H: Host, R: Read>(rt: &H, from: &mut R) {
-    let mut block = [0u8; 65536];
     let mut line = Line::new();
     let mut replayer = Replayer {
-        receivers: [None; 4],
         session: Session::new(),
         out: Output::new(),
     };
-    // A proved loop has to end, and nothing says that the input does: it counts to a number that no run reaches.
-    for _ in 0..u64::MAX {
-        if replayer.out.is_broken {
-            break;
-        }
-        let Some(n) = streams::read_or_tell(
-            rt,
-            from,
-            &mut block,
-            b"replay: the input cannot be read",
-        ) else {
-            // What was read of a line before that is no line.
-            line.clear();
-            break;
-        };
-        if n == 0 {
-            break;
-        }
-        replayer.calls(rt, &mut line, &block[..n]);
+    let is_read = program::read_blocks(rt, from, b"replay: the input cannot be read", |block| {
+        replayer.calls(rt, &mut line, block);
+        !replayer.out.is_broken
+    });
+    if !is_read {
+        // What was read of a line before that is no line.
+        line.clear();
     }
     // No newline ends the last line.
     if !line.is_empty() {

@@ -1,11 +1,11 @@
-// What a list of calls works on besides receivers: a lone filter line, and a sender with its phase record.
+// What a list of calls works on: receivers, a lone filter line, and a sender with its phase record.
 use crate::answer::{ok, refused, sample};
-use crate::field::{Block, bits, count, counter, letter, number, put};
-use crate::{field, stateless};
+use crate::field::{bits, count, counter, field, letter, number, values};
+use crate::receivers::Receivers;
+use crate::{field, receivers, stateless, uplink};
 use dsp_types::{ComplexSample, TdmaTime};
 use fir::FirComplexSym;
 use modulator::{DqpskMapper, Modulator};
-use program::is_word;
 use text::Text;
 
 // A sender and its phase record.
@@ -15,8 +15,9 @@ struct Sender {
     mapper: DqpskMapper,
 }
 
-#[derive(Clone, Copy)]
+#[derive(Drop)]
 pub struct Session {
+    receivers: Receivers,
     filter: FirComplexSym,
     // The sender that a call has made.
     sender: Option<Sender>,
@@ -31,12 +32,13 @@ impl Sender {
     }
 
     // One sample, as a block of one. Bits that are given as `-` are none.
-    fn send(&mut self, line: &[u8], values: &Block) -> Option<Text> {
+    fn send(&mut self, line: &[u8]) -> Option<Text> {
+        let values = values(line);
         let counter = counter(line, 1)?;
         let time = TdmaTime(number(line, 2)?);
         let bits = match letter(line, 3) {
             Some(b'-') => None,
-            _ => Some(bits(line, values, 3)?),
+            _ => Some(bits(line, &values, 3)?),
         };
         let mut parts = [0.0f32; 2];
         let sent = self
@@ -55,41 +57,42 @@ impl Sender {
 impl Session {
     pub(crate) fn new() -> Session {
         Session {
+            receivers: [None; 4],
             filter: FirComplexSym::new(),
             sender: None,
         }
     }
 
-    // The filter line or the sender anew.
-    fn renew(&mut self, line: &[u8]) -> Option<Text> {
-        if is_word(line, b"lnew") {
-            self.filter = FirComplexSym::new();
-        } else if is_word(line, b"txnew") {
-            self.sender = Some(Sender::new());
-        } else {
-            return None;
-        }
-        Some(ok())
+    fn renew_filter(&mut self) -> Text {
+        self.filter = FirComplexSym::new();
+        ok()
     }
 
-    // Makes the call of a line, if it is one.
+    fn renew_sender(&mut self) -> Text {
+        self.sender = Some(Sender::new());
+        ok()
+    }
+
+    // Makes the call of a line, if it is one: the number of its fields and the first of them say which.
     pub(crate) fn step(&mut self, line: &[u8]) -> Option<Text> {
-        let count = count(line);
-        if count == 1 {
-            return self.renew(line);
+        match (count(line), field(line, 0)) {
+            (3, b"new") => receivers::renew(&mut self.receivers, line),
+            (5, b"s") => receivers::sample(&mut self.receivers, line),
+            (5, b"t") => receivers::take(&mut self.receivers, line, false),
+            (5, b"T") => receivers::take(&mut self.receivers, line, true),
+            (3, b"f") => receivers::follow(&mut self.receivers, line),
+            (1, b"txnew") => Some(self.renew_sender()),
+            (4, b"w") => self.sender.as_mut()?.send(line),
+            (4, b"j") => stateless::judge(line),
+            (3, b"b") => stateless::build_joined(line),
+            (5, b"d") => stateless::build(line),
+            (4, b"u") => uplink::build_normal(line),
+            (3, b"c") => uplink::build_control(line),
+            (1, b"lnew") => Some(self.renew_filter()),
+            (3, b"l") => Some(sample(self.filter.sample(field::sample(line, 1)?))),
+            (3, b"m") => stateless::magnitude_of(line),
+            (3, b"a") => stateless::turns_of(line),
+            _ => None,
         }
-        let name = letter(line, 0)?;
-        if count == 3 && name == b'l' {
-            return Some(sample(self.filter.sample(field::sample(line, 1)?)));
-        }
-        let mut values = [0u8; 65536];
-        put(&mut values, line);
-        if count == 4
-            && name == b'w'
-            && let Some(sender) = &mut self.sender
-        {
-            return sender.send(line, &values);
-        }
-        stateless::answer(line, &mut values)
     }
 }

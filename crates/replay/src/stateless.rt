@@ -1,7 +1,6 @@
 // The calls that work on nothing that is kept: burst builders, the logger's call, magnitude and quarter turns.
 use crate::answer::{burst, float, refused, with_number};
-use crate::field::{Block, bits, count, digits, letter, number, sample};
-use crate::uplink;
+use crate::field::{bits, digits, letter, number, sample, values};
 use block_text::BurstType;
 use dsp_types::Refusal;
 use magnitude::magnitude;
@@ -14,33 +13,22 @@ fn built(answer: Result<Burst, Refusal>) -> Text {
 }
 
 // A burst from its letter and its blocks' characters, joined.
-fn build_joined(line: &[u8]) -> Option<Text> {
-    let kind = letter(line, 1)?;
-    if !kind.is_ascii_alphabetic() {
-        return None;
-    }
+pub(crate) fn build_joined(line: &[u8]) -> Option<Text> {
+    let kind = letter(line, 1).filter(|kind| kind.is_ascii_alphabetic())?;
     let characters = digits(line, 2)?;
     Some(built(block_text::answer(BurstType::of_letter(kind), characters)))
 }
 
 // A burst from three slices.
-fn build(line: &[u8], values: &Block) -> Option<Text> {
-    let blk1 = bits(line, values, 2)?;
-    let bbk = bits(line, values, 3)?;
-    let blk2 = bits(line, values, 4)?;
+pub(crate) fn build(line: &[u8]) -> Option<Text> {
+    let values = values(line);
+    let blk1 = bits(line, &values, 2)?;
+    let bbk = bits(line, &values, 3)?;
+    let blk2 = bits(line, &values, 4)?;
     Some(built(match letter(line, 1) {
         Some(b'S') => build_sdb(blk1, bbk, blk2),
         _ => build_ndb(number(line, 1)?, blk1, bbk, blk2),
     }))
-}
-
-// The logger's call with so many answer bytes, of which there are enough.
-fn judge_with(kind: u32, bits: &[u8], answer: &mut [u8], len: usize) -> Result<(), Refusal> {
-    if len <= answer.len() {
-        logger::judge(kind, bits, &mut answer[..len])
-    } else {
-        Err(Refusal::BadLength)
-    }
 }
 
 // The number of two bytes, the low one first.
@@ -48,45 +36,32 @@ fn number_of(low: u8, high: u8) -> u64 {
     u64::from(u16::from_le_bytes([low, high]))
 }
 
-fn judged(kind: u32, bits: &[u8], len: usize) -> Text {
+// The logger's call with so many answer bytes, where there are so many.
+fn judged(kind: u32, bits: &[u8], len: usize) -> Option<Text> {
     let mut answer = [0u8; 4096];
-    if let Err(refusal) = judge_with(kind, bits, &mut answer, len) {
-        return refused(refusal);
+    if let Err(refusal) = logger::judge(kind, bits, answer.get_mut(..len)?) {
+        return Some(refused(refusal));
     }
     let burst = with_number(Text::new().append(b"judged"), u64::from(answer[0]));
     let errors = with_number(burst, u64::from(answer[1]));
     let place = with_number(errors, number_of(answer[2], answer[3]));
-    with_number(place, number_of(answer[4], answer[5])).append(b"\n")
+    Some(with_number(place, number_of(answer[4], answer[5])).append(b"\n"))
 }
 
 // Has bits judged.
-fn judge(line: &[u8], values: &Block) -> Option<Text> {
+pub(crate) fn judge(line: &[u8]) -> Option<Text> {
+    let values = values(line);
     let kind = number(line, 1)?;
     let len = number(line, 2)? as usize;
-    let bits = bits(line, values, 3)?;
-    if len <= 4096 {
-        Some(judged(kind, bits, len))
-    } else {
-        None
-    }
+    judged(kind, bits(line, &values, 3)?, len)
 }
 
-// The answer to a line, of which the block has the digits' values, if it is a call.
-pub(crate) fn answer(line: &[u8], values: &mut Block) -> Option<Text> {
-    match (count(line), letter(line, 0)?) {
-        (3, b'b') => build_joined(line),
-        (3, b'c') => uplink::build_control(line, values),
-        (3, b'm') => {
-            let x = sample(line, 1)?;
-            Some(float(magnitude(x.re, x.im)))
-        }
-        (3, b'a') => {
-            let x = sample(line, 1)?;
-            Some(float(quarter_turns(x.re, x.im)))
-        }
-        (4, b'j') => judge(line, &*values),
-        (4, b'u') => uplink::build_normal(line, values),
-        (5, b'd') => build(line, &*values),
-        _ => None,
-    }
+pub(crate) fn magnitude_of(line: &[u8]) -> Option<Text> {
+    let x = sample(line, 1)?;
+    Some(float(magnitude(x.re, x.im)))
+}
+
+pub(crate) fn turns_of(line: &[u8]) -> Option<Text> {
+    let x = sample(line, 1)?;
+    Some(float(quarter_turns(x.re, x.im)))
 }

@@ -16,7 +16,8 @@ fn send_line<H: Host>(rt: &H, sender: &mut Sender, line: &Line) {
     sender.line(rt, text::trimmed(line.as_slice(), b'\r'));
 }
 
-// Sends the slots of the lines that end in these bytes.
+// Sends the slots of the lines that end in these bytes. (replay parts lines so too: one function for both would have to be
+// given how each keeps, clears and reads its line, and be no plainer.)
 fn send_lines<H: Host>(rt: &H, sender: &mut Sender, line: &mut Line, bytes: &[u8]) {
     for byte in bytes {
         if *byte == b'\n' {
@@ -28,29 +29,16 @@ fn send_lines<H: Host>(rt: &H, sender: &mut Sender, line: &mut Line, bytes: &[u8
     }
 }
 
-// A proved loop has to end, and nothing says that an input does: it counts to a number that no run reaches.
 fn send_all<H: Host, R: Read>(rt: &H, from: &mut R) {
-    let mut block = [0u8; 65536];
     let mut line = Line::new();
     let mut sender = Sender::new();
-    for _ in 0..u64::MAX {
-        if !sender.is_open {
-            break;
-        }
-        let Some(n) = streams::read_or_tell(
-            rt,
-            from,
-            &mut block,
-            b"tetra_tx: the input cannot be read",
-        ) else {
-            // What was read of a line before that is not all of it.
-            line.clear();
-            break;
-        };
-        if n == 0 {
-            break;
-        }
-        send_lines(rt, &mut sender, &mut line, &block[..n]);
+    let is_read = program::read_blocks(rt, from, b"tetra_tx: the input cannot be read", |block| {
+        send_lines(rt, &mut sender, &mut line, block);
+        sender.is_open
+    });
+    if !is_read {
+        // What was read of a line before that is not all of it.
+        line.clear();
     }
     // No newline ends the last line; a slot without a burst follows it.
     if !line.is_empty() {
