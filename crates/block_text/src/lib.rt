@@ -99,11 +99,7 @@ fn bits_of<const N: usize>(characters: &[u8]) -> [u8; N]
     requires { length characters.now ≡ N }
     ensures { result ≡ map character_bit characters.now }
 {
-    let mut bits = [0; N];
-    for (i, c) in characters.iter().enumerate() {
-        bits[i] = bit_of(*c);
-    }
-    bits
+    std::array::from_fn(|i| bit_of(characters[i]))
 }
 
 // The burst of a type, from the characters of its blocks.
