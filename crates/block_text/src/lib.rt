@@ -77,11 +77,7 @@ fn judged_type(burst_type: Option<BurstType>, characters: &[u8]) -> Result<Burst
     ensures known { IfOk result (λ t. burst_type ≡ Some t) }
     ensures length { IfOk result (λ t. length characters.now ≡ wanted (downlink_type t)) }
 {
-    let is_counted = match burst_type {
-        Some(known) => characters.len() == known.length(),
-        None => true,
-    };
-    if !is_counted {
+    if burst_type.is_some_and(|known| characters.len() != known.length()) {
         return Err(Refusal::BadLength);
     }
     if not_characters(characters) {
@@ -95,7 +91,7 @@ fn judged_type(burst_type: Option<BurstType>, characters: &[u8]) -> Result<Burst
 fn bit_of(c: u8) -> u8
     ensures { result ≡ character_bit c }
 {
-    if c == b'1' { 1 } else { 0 }
+    u8::from(c == b'1')
 }
 
 // The bits that characters stand for.
@@ -103,11 +99,7 @@ fn bits_of<const N: usize>(characters: &[u8]) -> [u8; N]
     requires { length characters.now ≡ N }
     ensures { result ≡ map character_bit characters.now }
 {
-    let mut bits = [0; N];
-    for (i, c) in characters.iter().enumerate() {
-        bits[i] = bit_of(*c);
-    }
-    bits
+    std::array::from_fn(|i| bit_of(characters[i]))
 }
 
 // The burst of a type, from the characters of its blocks.

@@ -68,11 +68,7 @@ fn split_word(text: &[u8]) -> (&[u8], &[u8])
 fn digit_of(c: u8) -> Option<usize>
     ensures { MatchOption result (digit_of c ≡ 99) (λ n. (n ≡ digit_of c) × (n ≤ 9)) }
 {
-    if c.is_ascii_digit() {
-        Some((c - b'0') as usize)
-    } else {
-        None
-    }
+    char::from(c).to_digit(10).map(|n| n as usize)
 }
 
 // The offset that a word is: one or two digits, an even number that is at most 48.
@@ -85,11 +81,7 @@ fn offset_of(word: &[u8]) -> Option<usize>
         [c, d] => 10 * digit_of(*c)? + digit_of(*d)?,
         _ => return None,
     };
-    if offset % 2 == 0 && offset <= 48 {
-        Some(offset)
-    } else {
-        None
-    }
+    Some(offset).filter(|n| n % 2 == 0 && *n <= 48)
 }
 
 // A slot's bits with a burst at the offset.

@@ -35,6 +35,6 @@ impl SampleCount {
     pub fn is_out_of_count(self) -> bool
         ensures { result ≡ out_of_count self.0 }
     {
-        self < SampleCount(0) || SampleCount(LAST_COUNTER) < self
+        !(SampleCount(0)..=SampleCount(LAST_COUNTER)).contains(&self)
     }
 }

@@ -42,24 +42,6 @@ fn shifted_square(n: u64, gap: u32) -> u64
     if gap < 25 { (n * n) >> (2 * gap) } else { 0 }
 }
 
-// The square root of s, cut to a whole number, by bisection.
-fn bisected_root(s: u64) -> u64
-    requires { s < 2 ^ 50 }
-    ensures { (square result ≤ s) × (s < square (result + 1)) }
-{
-    let mut low: u64 = 0;
-    let mut high: u64 = 0x200_0000;
-    while high - low > 1 {
-        let middle = low + (high - low) / 2;
-        if middle * middle <= s {
-            low = middle;
-        } else {
-            high = middle;
-        }
-    }
-    low
-}
-
 // A guess at the square root of s = m² + z, for z ≤ m²: a chord of the root, then two of Newton's steps.
 fn guessed_root(m: u64, z: u64, s: u64) -> u64
     requires { (m < 2 ^ 24) × (z < 2 ^ 48) × (s < 2 ^ 49) }
@@ -73,7 +55,8 @@ fn guessed_root(m: u64, z: u64, s: u64) -> u64
 }
 
 // The square root of m² + z, cut to a whole number: the guess, or one less where it is too large. Nothing is
-// proved of the guess, so what comes of it is tested; it passed for all that were tried, and else bisection decides.
+// proved of the guess, so what comes of it is tested; it passed for all that were tried, and else `isqrt`, which is
+// slower, decides.
 fn root(m: u64, z: u64) -> u64
     requires { (m < 2 ^ 24) × (z < 2 ^ 48) }
     ensures { (square result ≤ square m + z) × (square m + z < square (result + 1)) }
@@ -88,7 +71,7 @@ fn root(m: u64, z: u64) -> u64
             }
         }
     }
-    bisected_root(s)
+    s.isqrt()
 }
 
 // The largest pattern that stands for at most g * 2^e units.

@@ -51,7 +51,7 @@ pub(crate) fn tdiff(counter: SampleCount, ready: SampleCount) -> i64
 pub(crate) fn is_outside(n: i64, first: i64, last: i64) -> bool
     ensures { result ≡ (lt_z n first || lt_z last n) }
 {
-    n < first || last < n
+    !(first..=last).contains(&n)
 }
 
 // Lost samples, or another reference time, can put the ready time into the past or far into the future.

@@ -7,7 +7,8 @@ ghost use Rattle.text.specs.Text.{cut, decimal, character_of, type_name, trimmed
 use std::marker::Model;
 use streams::Host;
 
-// The first len of the bytes, and 0 behind them. No heap: the bytes have a fixed place.
+// The first len of the bytes, and 0 behind them. Not an `ArrayVec`, which is not `Copy` and whose model is a record: a
+// `Text` stands for the list of its bytes in each equation.
 #[derive(Clone, Copy)]
 pub struct Text {
     bytes: [u8; 2048],
@@ -38,14 +39,10 @@ pub fn front(bytes: &[u8], len: usize) -> &[u8]
 }
 
 // The bytes without one closing byte c.
-#[tactic(auto, using(crate::proofs::Trimming::trim_last, crate::proofs::Trimming::trim_other, crate::proofs::Trimming::trim_none))]
 pub fn trimmed(bytes: &[u8], c: u8) -> &[u8]
     ensures { result.now ≡ trimmed c bytes.now }
 {
-    match bytes.split_last() {
-        Some((last, rest)) if *last == c => rest,
-        _ => bytes,
-    }
+    bytes.strip_suffix(&[c]).unwrap_or(bytes)
 }
 
 // The character of a bit.

@@ -83,7 +83,8 @@ pub fn whole(t: f32) -> usize
     }
 }
 
-// What is left of t: how far on from that sample. std's `fract` is another number below 0 and from 4 on.
+// What is left of t: how far on from that sample. std's `fract` is another number at -1 and below and from 4 on, and
+// gives 0.0 for -0.0.
 #[tactic(auto, using(crate::proofs::Parts::whole_lt), unfolding(crate::specs::Turns::fract_of))]
 pub fn fract(t: f32) -> f32
     ensures { result ≡ fract_of t }
