@@ -73,7 +73,7 @@ pub fn div_euclid(n: i64, d: u32) -> i64
 }
 
 // Whether some byte is neither 0 nor 1. It looks at every byte, so that the compiler can take many at once: `any`, which
-// stops at the first, takes 220 ns for the 510 bits of a slot, and this takes 14.
+// stops at the first, takes some fifteen times as long for the 510 bits of a slot.
 pub fn not_bits(bytes: &[u8]) -> bool
     ensures { result ≡ not_bits bytes.now }
 {
