@@ -35,24 +35,20 @@ impl Downlink {
         let count = parts.len() / 2;
         let start = self.tally.counter;
         let mut at: usize = 0;
-        // A proved loop has to end: it counts to a number that no run reaches.
-        for _ in 0..u64::MAX {
-            if !self.tally.is_open || count <= at {
-                break;
-            }
+        while self.tally.is_open && at < count {
             let first = start.wrapping_add(at as u64);
             let n = step_length(&self.receiver, first);
             let samples = samples_from(parts, at, n);
             let receiver = &mut self.receiver;
             let heard = slot_lines::hear(receiver, past, samples, count_of(first), style);
-            at = at.wrapping_add(heard.taken);
+            at += heard.taken;
             self.tell(rt, heard, first);
         }
         self.tally.move_on(rt, at, parts);
     }
 }
 
-// A proved loop has to end, and nothing says that an input does: it counts to a number that no run reaches.
+// Hears an input to its end, and tells what came of it.
 pub(crate) fn receive<H: Host, R: Read + Drop>(rt: &H, from: R, options: Options) {
     let mut block = [0u8; 65536];
     let mut parts = [0.0f32; 16384];
@@ -67,7 +63,7 @@ pub(crate) fn receive<H: Host, R: Read + Drop>(rt: &H, from: R, options: Options
         receiver: State::new(Mode::DlUnsynchronized),
         tally: Tally::new(rt, options),
     };
-    // As above; nothing says that the input ends.
+    // A proved loop has to end, and nothing says that an input does: it counts to a number that no run reaches.
     for _ in 0..u64::MAX {
         if !downlink.tally.is_open || input.is_over {
             break;

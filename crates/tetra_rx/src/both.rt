@@ -61,7 +61,8 @@ impl Both {
         let count = parts.len().min(up_parts.len()) / 2;
         let start = self.tally.counter;
         let mut at: usize = 0;
-        // A proved loop has to end: it counts to a number that no run reaches.
+        // A proved loop has to end, and a step in which the downlink leads takes no sample of both: it counts to a number that no
+        // run reaches.
         for _ in 0..u64::MAX {
             // A line of the downlink waits for the uplink.
             let is_held = self.links.line.is_some();
@@ -117,7 +118,7 @@ pub(crate) fn receive<H: Host, R: Read + Drop>(rt: &H, from: R, up_from: R, opti
     let mut down = Input::new(from, options.format);
     let mut up = Input::new(up_from, options.format);
     let mut both = Both::new(Tally::new(rt, options));
-    // As above; nothing says that the inputs end.
+    // As in alone::receive: nothing says that the inputs end.
     for _ in 0..u64::MAX {
         if !both.tally.is_open || down.is_over {
             break;

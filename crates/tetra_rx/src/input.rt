@@ -1,5 +1,5 @@
 // A file of samples, read block by block.
-ghost use Rattle.std.specs.Prelude.{◌<◌, ◌≤◌};
+ghost use Rattle.std.specs.Prelude.{◌≡◌, ◌-◌, ◌/◌, ◌<◌, ◌≤◌, min, length};
 
 use arrayvec::ArrayVec;
 use iq_format::Format;
@@ -23,7 +23,9 @@ pub struct Input<R> {
 }
 
 // n samples behind the first `from`, or all of them where there are fewer.
-pub(crate) fn samples_from(parts: &[f32], from: usize, n: usize) -> &[f32] {
+pub(crate) fn samples_from(parts: &[f32], from: usize, n: usize) -> &[f32]
+    ensures { length result.now / 2 ≡ min n (length parts.now / 2 - from) }
+{
     let start = from.min(parts.len() / 2);
     slot_lines::first_samples(&parts[2 * start..], n)
 }

@@ -1,4 +1,6 @@
 // What a run has come to, and what is told of it.
+ghost use Rattle.std.specs.Prelude.{◌<◌};
+
 use crate::link::LinkTally;
 use crate::options::Options;
 use crate::report;
@@ -22,9 +24,13 @@ pub(crate) fn count_of(counter: u64) -> SampleCount {
 
 // How many samples from that counter on the downlink is given in a step: while it searches, none behind the one at which its
 // window closes, so that a step ends where it locks. A loss comes with a slot, which ends a step anyway.
-pub(crate) fn step_length(down: &State, counter: u64) -> usize {
+pub(crate) fn step_length(down: &State, counter: u64) -> usize
+    ensures { 0 < result }
+{
     if down.slots.mode() == Mode::DlUnsynchronized {
-        down.slots.quiet_samples(count_of(counter)).wrapping_add(1)
+        down.slots
+            .quiet_samples(count_of(counter))
+            .saturating_add(1)
     } else {
         usize::MAX
     }
