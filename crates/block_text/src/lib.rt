@@ -24,7 +24,7 @@ pub enum BurstType {
 }
 
 impl BurstType {
-    // The type that a letter asks for.
+    // The type that a letter asks for. (A `TryFrom<u8>` would not say that it reads a letter, and no number.)
     #[tactic(auto, unfolding(crate::specs::BlockText::letter_type))]
     pub fn of_letter(letter: u8) -> Option<BurstType>
         ensures { type_or_0 result ≡ letter_type letter }

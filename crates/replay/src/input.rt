@@ -1,25 +1,25 @@
 // A line of the input, which comes in blocks.
 use arrayvec::ArrayVec;
 
+// No line is longer.
+const LONGEST: usize = 65_536;
+
+// A line's bytes, and one more where it is too long.
 #[derive(Drop)]
 pub struct Line {
-    bytes: ArrayVec<u8, 65536>,
-    is_too_long: bool,
+    bytes: ArrayVec<u8, 65537>,
 }
 
 impl Line {
     pub(crate) fn new() -> Line {
         Line {
             bytes: ArrayVec::new(),
-            is_too_long: false,
         }
     }
 
-    // What is behind a full line is let go, but known.
+    // What is behind a line that is too long is let go.
     pub(crate) fn push(&mut self, byte: u8) {
-        if self.bytes.try_push(byte).is_err() {
-            self.is_too_long = true;
-        }
+        let _ = self.bytes.try_push(byte);
     }
 
     pub(crate) fn is_empty(&self) -> bool {
@@ -28,15 +28,11 @@ impl Line {
 
     pub(crate) fn clear(&mut self) {
         self.bytes.clear();
-        self.is_too_long = false;
     }
 
     // A line that is too long is read as an empty one: neither is a call.
     pub(crate) fn text(&self) -> &[u8] {
-        if self.is_too_long {
-            b""
-        } else {
-            self.bytes.as_slice()
-        }
+        let bytes = self.bytes.as_slice();
+        if LONGEST < bytes.len() { b"" } else { bytes }
     }
 }

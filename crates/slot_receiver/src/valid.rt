@@ -18,6 +18,8 @@ pub(crate) const FAR_READY: u64 = 1_099_511_627_775;
 
 const LAST_NEXT: i64 = LAST_COUNTER + 1;
 
+// Stored numbers are read as 0 outside of their range here, in `valid_count` and in rx_slot's `valid_closing`. One function for the
+// three would take both ends of each, two of which are magnitudes: no shorter, and less like the definitions.
 #[tactic(auto, unfolding(crate::specs::Receiver::valid_time))]
 pub(crate) fn valid_time(t: SampleCount, most: u64) -> SampleCount
     ensures { result.0 ≡ valid_time most t.0 }

@@ -88,11 +88,7 @@ impl<R: Read> Input<R> {
     // The first n samples are done with; where there were fewer, bytes of half a sample are left.
     pub(crate) fn without(&mut self, n: usize) {
         let bytes = self.sample_bytes();
-        let held = self.held.as_mut_slice();
-        let whole = held.len() - held.len() % bytes;
-        let done = whole.min(n.min(MOST) * bytes);
-        let left = held.len() - done;
-        held.copy_within(done.., 0);
-        self.held.truncate(left);
+        let whole = self.held.len() - self.held.len() % bytes;
+        self.held.drain(..whole.min(n.min(MOST) * bytes));
     }
 }
