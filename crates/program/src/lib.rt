@@ -29,12 +29,13 @@ impl fmt::Display for Wrong {
     }
 }
 
-// What the words of a program ask for that has no options of its own and reads one file.
-#[derive(Clone, Copy)]
-enum Asked {
+// What is told in the place of a run.
+#[derive(Clone, Copy, Debug, PartialEq, Eq)]
+pub enum Told<W> {
     Help,
     Version,
-    Read(Named),
+    // What is wrong with the command line.
+    Wrong(W),
 }
 
 // The system's numbers of its errors: there is no such file, its name is too long, its name is no text.
@@ -52,7 +53,7 @@ pub fn fail<H: Host>(rt: &H, program: &[u8], what: &[u8], error: io::Error) {
 }
 
 // Says on standard error what is wrong with the command line, in at most 256 bytes.
-pub fn refuse<H: Host, D: fmt::Display + Drop>(rt: &H, program: &[u8], what: D) {
+fn refuse<H: Host, D: fmt::Display + Drop>(rt: &H, program: &[u8], what: D) {
     let what = InlineText::<256>::of(what);
     let wrong = Text::new()
         .append(program)
@@ -62,17 +63,26 @@ pub fn refuse<H: Host, D: fmt::Display + Drop>(rt: &H, program: &[u8], what: D) 
     line.tell(rt);
 }
 
-pub fn help<H: Host>(rt: &H, program: &[u8], text: &[u8]) {
+fn help<H: Host>(rt: &H, program: &[u8], text: &[u8]) {
     if let Err(error) = streams::print(rt, text) {
         fail(rt, program, b"the help cannot be written", error);
     }
 }
 
 // The version of all programs stands here, and tests/programs.sh holds it to the Makefile's.
-pub fn version<H: Host>(rt: &H, program: &[u8]) {
+fn version<H: Host>(rt: &H, program: &[u8]) {
     let line = Text::new().append(program).append(b" 0.1.0\n");
     if let Err(error) = line.print(rt) {
         fail(rt, program, b"the version cannot be written", error);
+    }
+}
+
+// Tells what was asked for or is wrong, of a program with that help.
+pub fn tell<H: Host, W: fmt::Display + Drop>(rt: &H, program: &[u8], text: &[u8], told: Told<W>) {
+    match told {
+        Told::Help => help(rt, program, text),
+        Told::Version => version(rt, program),
+        Told::Wrong(wrong) => refuse(rt, program, wrong),
     }
 }
 
@@ -107,33 +117,33 @@ pub fn open<H: Host>(rt: &H, program: &[u8], named: Named) -> Option<Source<H::F
 }
 
 // The first word that asks for something decides; names are kept.
-fn read_words<H: Host>(rt: &H) -> Result<Asked, Wrong> {
+fn read_words<H: Host>(rt: &H) -> Result<Named, Told<Wrong>> {
     let mut words = Words::new();
     let mut named = None;
     let mut buf = [0u8; 4096];
     while let Some((kind, word)) = words.next(rt, &mut buf) {
         match kind {
             Kind::Ends => {}
-            Kind::Help => return Ok(Asked::Help),
-            Kind::Version => return Ok(Asked::Version),
-            Kind::Option => return Err(Wrong::UnknownOption),
-            Kind::Name if named.is_some() => return Err(Wrong::TwoNames),
+            Kind::Help => return Err(Told::Help),
+            Kind::Version => return Err(Told::Version),
+            Kind::Option => return Err(Told::Wrong(Wrong::UnknownOption)),
+            Kind::Name if named.is_some() => return Err(Told::Wrong(Wrong::TwoNames)),
             Kind::Name => named = Some(word.named()),
         }
     }
-    Ok(Asked::Read(named.unwrap_or(Named::Input)))
+    Ok(named.unwrap_or(Named::Input))
 }
 
 // Answers the command line of a program that reads standard input or one file, and has no options of its own: gives what
 // is to be read, or tells what was asked for or is wrong.
 pub fn input<H: Host>(rt: &H, program: &[u8], text: &[u8]) -> Option<Source<H::File>> {
     match read_words(rt) {
-        Ok(Asked::Read(named)) => return open(rt, program, named),
-        Ok(Asked::Help) => help(rt, program, text),
-        Ok(Asked::Version) => version(rt, program),
-        Err(wrong) => refuse(rt, program, wrong),
+        Ok(named) => open(rt, program, named),
+        Err(told) => {
+            tell(rt, program, text, told);
+            None
+        }
     }
-    None
 }
 
 // Gives what is read to a function, a block at a time, until that wants no more or the input ends. The answer is false, and

@@ -9,14 +9,10 @@ mod options;
 mod report;
 mod tally;
 
-use options::{Asked, Options};
+use options::Options;
 use streams::Host;
 
-fn help<H: Host>(rt: &H) {
-    program::help(
-        rt,
-        b"tetra_rx",
-        b"usage: tetra_rx [OPTION].. [FILE]
+const HELP: &[u8] = b"usage: tetra_rx [OPTION].. [FILE]
 
 Receives a TETRA downlink and prints a line for each slot:
   slot=17 sample=18375 type=sync errors=0 bits=..
@@ -40,9 +36,7 @@ is heard as zero, and told. So a sender of samples writes NaN for lost ones.
   --quiet         no progress, no word of lock and loss, and no summary
   --help          this text
   --version       the version
-",
-    );
-}
+";
 
 fn receive<H: Host>(rt: &H, options: Options) {
     let Some(source) = program::open(rt, b"tetra_rx", options.downlink) else {
@@ -59,9 +53,7 @@ fn receive<H: Host>(rt: &H, options: Options) {
 
 fn main(rt: HostRuntime) {
     match options::read(&rt) {
-        Ok(Asked::Help) => help(&rt),
-        Ok(Asked::Version) => program::version(&rt, b"tetra_rx"),
-        Ok(Asked::Receive(options)) => receive(&rt, options),
-        Err(wrong) => program::refuse(&rt, b"tetra_rx", wrong),
+        Ok(options) => receive(&rt, options),
+        Err(told) => program::tell(&rt, b"tetra_rx", HELP, told),
     }
 }

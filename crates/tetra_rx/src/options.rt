@@ -2,7 +2,7 @@
 ghost use Rattle.std.specs.Prelude.{◌≤◌};
 
 use iq_format::Format;
-use program::{Kind, Named, Word, Words};
+use program::{Kind, Named, Told, Word, Words};
 use slot_text::Form;
 use std::env::Env;
 use std::fmt;
@@ -38,19 +38,10 @@ pub(crate) struct Options {
     pub uplink: Option<Named>,
 }
 
-#[derive(Clone, Copy)]
-pub(crate) enum Asked {
-    Help,
-    Version,
-    Receive(Options),
-}
-
 // What the words up to the next one ask for.
 #[derive(Clone, Copy)]
 struct Reader {
-    // Help or the version, where they are asked for.
-    told: Option<Asked>,
-    wrong: Option<Wrong>,
+    told: Option<Told<Wrong>>,
     // The downlink's file, where a word names it.
     downlink: Option<Named>,
     options: Options,
@@ -70,7 +61,6 @@ impl Reader {
     fn new() -> Reader {
         Reader {
             told: None,
-            wrong: None,
             downlink: None,
             options: Options {
                 is_quiet: false,
@@ -84,9 +74,15 @@ impl Reader {
         }
     }
 
-    // The first thing that is wrong is told.
+    // The first thing that is wrong is told, but help and the version go before it.
     fn refuse(&mut self, wrong: Wrong) {
-        self.wrong = self.wrong.or(Some(wrong));
+        self.told = self.told.or(Some(Told::Wrong(wrong)));
+    }
+
+    fn read_version(&mut self) {
+        if self.told != Some(Told::Help) {
+            self.told = Some(Told::Version);
+        }
     }
 
     fn read_format(&mut self, value: Option<Word>) {
@@ -131,29 +127,27 @@ impl Reader {
         }
     }
 
-    // Help and the version go before what is wrong.
-    fn finish(mut self) -> Result<Asked, Wrong> {
+    fn finish(mut self) -> Result<Options, Told<Wrong>> {
         self.options.downlink = self.downlink.unwrap_or(Named::Input);
         if self.options.downlink == Named::Input && self.options.uplink == Some(Named::Input) {
             self.refuse(Wrong::OneInput);
         }
-        match (self.told, self.wrong) {
-            (Some(told), _) => Ok(told),
-            (None, Some(wrong)) => Err(wrong),
-            (None, None) => Ok(Asked::Receive(self.options)),
+        match self.told {
+            Some(told) => Err(told),
+            None => Ok(self.options),
         }
     }
 }
 
-pub(crate) fn read<E: Env>(rt: &E) -> Result<Asked, Wrong> {
+pub(crate) fn read<E: Env>(rt: &E) -> Result<Options, Told<Wrong>> {
     let mut reader = Reader::new();
     let mut words = Words::new();
     let mut buf = [0u8; 4096];
     while let Some((kind, word)) = words.next(rt, &mut buf) {
         match kind {
             Kind::Ends => {}
-            Kind::Help => reader.told = Some(Asked::Help),
-            Kind::Version => reader.told = reader.told.or(Some(Asked::Version)),
+            Kind::Help => reader.told = Some(Told::Help),
+            Kind::Version => reader.read_version(),
             Kind::Option => reader.read_option(rt, word.text, &mut words),
             Kind::Name => reader.read_name(word),
         }
