@@ -33,7 +33,7 @@ fn refused(refusal: Refusal) -> Text
         .append(b"\n")
 }
 
-// What is printed of a burst.
+// What is printed of a burst. (Only a type gives one; that no type says, and `type_name` has a name for none.)
 fn built(burst_type: Option<BurstType>, burst: Burst) -> Text
     ensures { result ≡ cut (burst_lines (type_or_0 burst_type) burst.first_sum burst.last_sum burst.bits) }
 {
