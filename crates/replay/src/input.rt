@@ -1,38 +1,45 @@
 // A line of the input, which comes in blocks.
 use arrayvec::ArrayVec;
 
-// No line is longer.
-const LONGEST: usize = 65_536;
-
-// A line's bytes, and one more where it is too long.
 #[derive(Drop)]
-pub struct Line {
-    bytes: ArrayVec<u8, 65537>,
+pub enum Line {
+    Kept(ArrayVec<u8, 65536>),
+    // What comes behind a full line is let go.
+    TooLong,
 }
 
 impl Line {
     pub(crate) fn new() -> Line {
-        Line {
-            bytes: ArrayVec::new(),
+        Line::Kept(ArrayVec::new())
+    }
+
+    pub(crate) fn push(&mut self, byte: u8) {
+        if let Line::Kept(bytes) = self
+            && bytes.try_push(byte).is_err()
+        {
+            *self = Line::TooLong;
         }
     }
 
-    // What is behind a line that is too long is let go.
-    pub(crate) fn push(&mut self, byte: u8) {
-        let _ = self.bytes.try_push(byte);
-    }
-
     pub(crate) fn is_empty(&self) -> bool {
-        self.bytes.is_empty()
+        match self {
+            Line::Kept(bytes) => bytes.is_empty(),
+            Line::TooLong => false,
+        }
     }
 
     pub(crate) fn clear(&mut self) {
-        self.bytes.clear();
+        match self {
+            Line::Kept(bytes) => bytes.clear(),
+            Line::TooLong => *self = Line::new(),
+        }
     }
 
     // A line that is too long is read as an empty one: neither is a call.
     pub(crate) fn text(&self) -> &[u8] {
-        let bytes = self.bytes.as_slice();
-        if LONGEST < bytes.len() { b"" } else { bytes }
+        match self {
+            Line::Kept(bytes) => bytes.as_slice(),
+            Line::TooLong => b"",
+        }
     }
 }
