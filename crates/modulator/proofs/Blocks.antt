@@ -401,17 +401,17 @@ module _ (first : ℤ) (m slot : ℕ) (bits : Option (List ℕ)) (o : Opened fir
       ∙ room_called (due_after (pos m) slot bits) room s (ap due_refusal (first_due (pos m) slot bits) ∙ o.unrefused)
 
   -- a block that fills its room, and one that ends before
-  pub filled_wrote : (room : ℕ) (s t : Sender) (out out' : List Float) → room ≤ k → Wrote (fed_block (place_due m start bits) room 0 s) room 0 t out out'
-      → Wrote (block_call (due_after first slot bits) room s) room 0 t out out'
-  filled_wrote room s t out out' h w =
-      rw (called room s, filled m slot bits o.accepted room s (omega (arith, ap (left_of m) e)), ← e) w
+  pub filled_wrote : (room n : ℕ) (s t : Sender) (out out' : List Float) → room ≤ k → n ≡ room → Wrote (fed_block (place_due m start bits) n 0 s) n 0 t out out'
+      → Wrote (block_call (due_after first slot bits) room s) n 0 t out out'
+  filled_wrote room n s t out out' h g w =
+      rw (called room s, filled m slot bits o.accepted room s (omega (arith, ap (left_of m) e)), ← e, ← g) w
 
-  pub ended_wrote : (room r : ℕ) (s t : Sender) (out out' : List Float) → k < room → r ≡ cond (eqb (m + k) counters) 2 12
-      → Wrote (fed_block (place_due m start bits) k 0 s) k 0 t out out' → Wrote (block_call (due_after first slot bits) room s) k r t out out'
-  ended_wrote room r s t out out' h g w =
-      let l : k ≡ left_of m (start_of slot) = f ∙ ap (left_of m) e in
-      rw (called room s, ended m slot bits o.accepted room r s (omega arith) (count_within m (start_of slot) o.small) (rw l at g), ← l, ← e)
-      (wrote_before (place_due m start bits) k r s t out out' w)
+  pub ended_wrote : (room n r : ℕ) (s t : Sender) (out out' : List Float) → k < room → n ≡ k → r ≡ cond (eqb (m + n) counters) 2 12
+      → Wrote (fed_block (place_due m start bits) n 0 s) n 0 t out out' → Wrote (block_call (due_after first slot bits) room s) n r t out out'
+  ended_wrote room n r s t out out' h i g w =
+      let l : n ≡ left_of m (start_of slot) = i ∙ f ∙ ap (left_of m) e in
+      rw (called room s, ended m slot bits o.accepted room r s (omega (arith, f, ap (left_of m) e)) (count_within m (start_of slot) o.small) (rw l at g), ← l, ← e)
+      (wrote_before (place_due m start bits) n r s t out out' w)
 
 -- ---- a block is no longer than its room
 

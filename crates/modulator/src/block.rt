@@ -19,6 +19,29 @@ pub struct Sent {
     pub refusal: Option<Refusal>,
 }
 
+// Samples that are sent in one go, none of them refused.
+#[derive(Clone, Copy)]
+struct Stretch<'a> {
+    slot: SlotToSend<'a>,
+    // The first sample's.
+    counter: u64,
+    count: usize,
+    ghost in_count: { counter + count ≤ counters },
+}
+
+impl Stretch<'_> {
+    // The refusal of the sample behind them, where the slot or the counter ends with them.
+    fn end_refusal(self) -> Refusal
+        ensures { number_of result ≡ cond (eqb (self.entry.counter + self.entry.count) counters) bad_counter need_more_data }
+    {
+        if self.counter + self.count as u64 == COUNTERS {
+            Refusal::BadCounter
+        } else {
+            Refusal::NeedMoreData
+        }
+    }
+}
+
 // How many samples there are before the counter ends, or the slot that starts there.
 #[tactic(auto, unfolding(crate::specs::Blocks::left_of))]
 fn left(counter: u64, start: u64) -> usize
@@ -30,37 +53,19 @@ fn left(counter: u64, start: u64) -> usize
     counted.min(placed) as usize
 }
 
-// The refusal of the sample behind them.
-fn end_refusal(counter: u64, left: usize) -> Refusal
-    requires { counter + left ≤ counters }
-    ensures { number_of result ≡ cond (eqb (counter + left) counters) bad_counter need_more_data }
-{
-    if counter + left as u64 == COUNTERS {
-        Refusal::BadCounter
-    } else {
-        Refusal::NeedMoreData
-    }
-}
-
-// What is fed to the filter for so many samples, none of them refused. The phase steps with them.
+// What is fed to the filter for a stretch of samples. The phase steps with them.
 // By index: nothing is known of two rows that are written through one zip.
-fn fill(
-    re: &mut [f32],
-    im: &mut [f32],
-    count: usize,
-    mapper: &mut DqpskMapper,
-    counter: u64,
-    slot: SlotToSend,
-)
-    requires { (count ≤ length re.old) × (count ≤ length im.old) × (counter + count ≤ counters) }
-    ensures phase { mapper.new.phase ≡ phases_of (slot_due counter slot.entry) count 0 mapper.old.phase }
-    ensures re { take count re.new ≡ re_of (inputs_of (slot_due counter slot.entry) count 0 mapper.old.phase) }
-    ensures im { take count im.new ≡ im_of (inputs_of (slot_due counter slot.entry) count 0 mapper.old.phase) }
+fn fill(re: &mut [f32], im: &mut [f32], mapper: &mut DqpskMapper, stretch: Stretch)
+    requires { (stretch.count ≤ length re.old) × (stretch.count ≤ length im.old) }
+    ensures phase { let s = stretch.entry in mapper.new.phase ≡ phases_of (slot_due s.counter s.slot) s.count 0 mapper.old.phase }
+    ensures re { let s = stretch.entry in take s.count re.new ≡ re_of (inputs_of (slot_due s.counter s.slot) s.count 0 mapper.old.phase) }
+    ensures im { let s = stretch.entry in take s.count im.new ≡ im_of (inputs_of (slot_due s.counter s.slot) s.count 0 mapper.old.phase) }
 {
     // A phase of its own for the loop: stepped behind the reference, a block takes a tenth longer.
     let mut next = *mapper;
-    for n in 0..count {
-        let due = slot.due_at(counter + n as u64 + 16).unwrap_or(Due::Silence);
+    for n in 0..stretch.count {
+        let count = stretch.counter + n as u64 + 16;
+        let due = stretch.slot.due_at(count).unwrap_or(Due::Silence);
         let x = next.symbol(due);
         re[n] = x.re;
         im[n] = x.im;
@@ -81,22 +86,16 @@ fn interleave(re: &[f32], im: &[f32], out: &mut [f32])
 }
 
 impl Modulator {
-    // Sends at most 256 samples, none of them refused.
-    fn piece(
-        &mut self,
-        mapper: &mut DqpskMapper,
-        count: usize,
-        counter: u64,
-        slot: SlotToSend,
-        out: &mut [f32],
-    )
-        requires { (count ≤ 256) × (2 * count ≤ length out.old) × (counter + count ≤ counters) }
-        ensures { Wrote (fed_block (slot_due counter slot.entry) count 0 (sender_of self.old mapper.old))
-            count 0 (sender_of self.new mapper.new) out.old out.new }
+    // Sends a stretch of at most 256 samples.
+    fn piece(&mut self, mapper: &mut DqpskMapper, stretch: Stretch, out: &mut [f32])
+        requires { (stretch.count ≤ 256) × (2 * stretch.count ≤ length out.old) }
+        ensures { let s = stretch.entry in Wrote (fed_block (slot_due s.counter s.slot) s.count 0 (sender_of self.old mapper.old))
+            s.count 0 (sender_of self.new mapper.new) out.old out.new }
     {
+        let count = stretch.count;
         let mut re = [0.0f32; 256];
         let mut im = [0.0f32; 256];
-        fill(&mut re, &mut im, count, mapper, counter, slot);
+        fill(&mut re, &mut im, mapper, stretch);
         let mut out_re = [0.0f32; 256];
         let mut out_im = [0.0f32; 256];
         self.filter
@@ -104,24 +103,21 @@ impl Modulator {
         interleave(&out_re[..count], &out_im[..count], out);
     }
 
-    // Sends so many samples, none of them refused.
-    fn send(
-        &mut self,
-        mapper: &mut DqpskMapper,
-        count: usize,
-        counter: u64,
-        slot: SlotToSend,
-        out: &mut [f32],
-    )
-        requires { (2 * count ≤ length out.old) × (counter + count ≤ counters) }
-        ensures wrote { Wrote (fed_block (slot_due counter slot.entry) count 0 (sender_of self.old mapper.old))
-            count 0 (sender_of self.new mapper.new) out.old out.new }
-        ensures kept { count ≡ 0 → (self.new ≡ self.old) × (mapper.new ≡ mapper.old) }
+    // Sends a stretch of samples, 256 at a time.
+    fn send(&mut self, mapper: &mut DqpskMapper, stretch: Stretch, out: &mut [f32])
+        requires { 2 * stretch.count ≤ length out.old }
+        ensures wrote { let s = stretch.entry in Wrote (fed_block (slot_due s.counter s.slot) s.count 0 (sender_of self.old mapper.old))
+            s.count 0 (sender_of self.new mapper.new) out.old out.new }
+        ensures kept { stretch.entry.count ≡ 0 → (self.new ≡ self.old) × (mapper.new ≡ mapper.old) }
     {
         // By index: of what `chunks_mut` lends, nothing is known after the loop.
-        for done in (0..count).step_by(256) {
-            let n = (count - done).min(256);
-            self.piece(mapper, n, counter + done as u64, slot, &mut out[2 * done..]);
+        for done in (0..stretch.count).step_by(256) {
+            let piece = Stretch {
+                slot: stretch.slot,
+                counter: stretch.counter + done as u64,
+                count: (stretch.count - done).min(256),
+            };
+            self.piece(mapper, piece, &mut out[2 * done..]);
         }
     }
 
@@ -149,19 +145,21 @@ impl Modulator {
         let room = out.len() / 2;
         let counter = dsp_types::unsigned(sample_counter.0);
         let start = start_of(slot);
-        let slot = SlotToSend { start, bits };
         let left = left(counter, start);
-        if room <= left {
-            self.send(mapper, room, counter, slot, out);
-            return Sent {
-                count: room,
-                refusal: None,
-            };
-        }
-        self.send(mapper, left, counter, slot, out);
+        let stretch = Stretch {
+            slot: SlotToSend { start, bits },
+            counter,
+            count: room.min(left),
+        };
+        self.send(mapper, stretch, out);
+        let refusal = if room <= left {
+            None
+        } else {
+            Some(stretch.end_refusal())
+        };
         Sent {
-            count: left,
-            refusal: Some(end_refusal(counter, left)),
+            count: stretch.count,
+            refusal,
         }
     }
 }

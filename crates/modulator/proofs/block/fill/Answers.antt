@@ -13,7 +13,7 @@ loop-n-preserved c =
     let a = c.args in
     let l = c.loop-n in
     let p = l.next.phase in
-    let due = slot_due a.counter a.slot in
+    let due = slot_due a.stretch.counter a.stretch.slot in
     let k = c.symbol-x.new.self.phase in
     let x = c.symbol-x.result in
     let r = c.due_at.result in
@@ -22,9 +22,9 @@ loop-n-preserved c =
     let e : k ≡ phase_after p (due l.n) = s.0 ∙ silent_phase r u.result (due l.n) p u.ensures c.due_at.ensures in
     let i : x ≡ input_of k (due l.n) = s.1 ∙ ap (λ (q : ℕ). input_of q (Ok u.result)) (sym s.0) ∙ silent_input r u.result (due l.n) k u.ensures c.due_at.ensures in
     record {
-      re_part = part_turn due a.count l.n p k (λ (s : ComplexSample). s.re) l.re _ x (omega arith) (omega arith) e i l.invariant.re_part;
-      im_part = part_turn due a.count l.n p k (λ (s : ComplexSample). s.im) l.im _ x (omega arith) (omega arith) e i l.invariant.im_part;
-      phase_left = phase_turn due a.count l.n p k _ (omega arith) e l.invariant.phase_left;
+      re_part = part_turn due a.stretch.count l.n p k (λ (s : ComplexSample). s.re) l.re _ x (omega arith) (omega arith) e i l.invariant.re_part;
+      im_part = part_turn due a.stretch.count l.n p k (λ (s : ComplexSample). s.im) l.im _ x (omega arith) (omega arith) e i l.invariant.im_part;
+      phase_left = phase_turn due a.stretch.count l.n p k _ (omega arith) e l.invariant.phase_left;
     }
 
 pub returns : goal.returns
@@ -32,10 +32,10 @@ returns c =
     let a = c.args in
     let l = c.loop-n in
     let p = l.next.phase in
-    let due = slot_due a.counter a.slot in
-    let e : l.n ≡ a.count = omega arith in
+    let due = slot_due a.stretch.counter a.stretch.slot in
+    let e : l.n ≡ a.stretch.count = omega arith in
     record {
-      phase = phase_end due a.count l.n p 0 _ e l.invariant.phase_left;
-      re = part_end due a.count l.n p 0 (λ (s : ComplexSample). s.re) l.re _ e l.invariant.re_part;
-      im = part_end due a.count l.n p 0 (λ (s : ComplexSample). s.im) l.im _ e l.invariant.im_part;
+      phase = phase_end due a.stretch.count l.n p 0 _ e l.invariant.phase_left;
+      re = part_end due a.stretch.count l.n p 0 (λ (s : ComplexSample). s.re) l.re _ e l.invariant.re_part;
+      im = part_end due a.stretch.count l.n p 0 (λ (s : ComplexSample). s.im) l.im _ e l.invariant.im_part;
     }

@@ -1,5 +1,5 @@
 -- The samples before the first refusal are counted, sent together, and the refusal is told.
-use Rattle.std.proofs.Common.{rules}
+use Rattle.std.proofs.Common.{rules, arith}
 use Rattle.std.specs.Option.{option_copied}
 use mir.Syntax.{w64}
 use mir.Val.{SFits}
@@ -20,12 +20,12 @@ returns-then-room-left-clause-block c =
     let a = c.args in
     let fits : SFits w64 a.sample_counter.0 = search rules in
     let o = opened a.sample_counter.0 c.unsigned-counter.result a.slot.0 (option_copied a.bits) _ (rw (to_z-of_z w64 _ fits) at c.unsigned-counter.ensures) c.in_default.ensures in
-    filled_wrote _ _ _ _ o c.start_of-start.result c.left-left.result c.start_of-start.ensures.0 c.left-left.ensures _ _ _ a.out.now _ c.if-room-left.true c.send.ensures.wrote
+    filled_wrote _ _ _ _ o c.start_of-start.result c.left-left.result c.start_of-start.ensures.0 c.left-left.ensures _ _ _ _ a.out.now _ c.if-room-left.true (omega arith) c.send.ensures.wrote
 
-pub returns-clause-block : goal.returns-clause-block
-returns-clause-block c =
+pub returns-else-room-left-clause-block : goal.returns-else-room-left-clause-block
+returns-else-room-left-clause-block c =
     let a = c.args in
     let fits : SFits w64 a.sample_counter.0 = search rules in
     let o = opened a.sample_counter.0 c.unsigned-counter.result a.slot.0 (option_copied a.bits) _ (rw (to_z-of_z w64 _ fits) at c.unsigned-counter.ensures) c.in_default.ensures in
-    ended_wrote _ _ _ _ o c.start_of-start.result c.left-left.result c.start_of-start.ensures.0 c.left-left.ensures _ _ _ _ a.out.now _ c.if-room-left.false
-    c.end_refusal.ensures c.send-2.ensures.wrote
+    ended_wrote _ _ _ _ o c.start_of-start.result c.left-left.result c.start_of-start.ensures.0 c.left-left.ensures _ _ _ _ _ a.out.now _ c.if-room-left.false (omega arith)
+    c.end_refusal.ensures c.send.ensures.wrote

@@ -11,5 +11,5 @@ returns c =
     let few = c.requires.0 in
     let f = c.fill.ensures in
     let b = c.block.ensures in
-    piece_wrote (slot_due a.counter a.slot) a.count (sender_of a.self.now a.mapper.now) _ _ _ _ _ _ a.out.now _ _ _ few few few f.re f.im f.phase b.line b.outs_re b.outs_im
+    piece_wrote (slot_due a.stretch.counter a.stretch.slot) a.stretch.count (sender_of a.self.now a.mapper.now) _ _ _ _ _ _ a.out.now _ _ _ few few few f.re f.im f.phase b.line b.outs_re b.outs_im
     c.interleave.ensures
