@@ -72,6 +72,8 @@ impl State {
     }
 
     // A sample that is not refused, and whether it or a zero before it handed a slot over.
+    // `Counter` is asked for in six contracts, not held in a type: in all but `process_sample` another fact stands beside it, and
+    // each counter that is passed on would be wrapped and unwrapped.
     #[tactic(auto, using(crate::proofs::Handing::accept_hands, crate::proofs::Samples::next_counter_lem), unfolding(crate::specs::View::receiver_of, slot_receiver::specs::View::receiver_from, slot_receiver::specs::Receiver::accept, slot_receiver::specs::Receiver::with_next))]
     fn accept(
         &mut self,
