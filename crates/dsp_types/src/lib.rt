@@ -4,7 +4,7 @@
 mod counts;
 mod refusals;
 
-ghost use Rattle.std.specs.Prelude.{◌≡◌, ◌%◌, pos, ◌+ℤ◌};
+ghost use Rattle.std.specs.Prelude.{◌≡◌, ◌*◌, ◌%◌, ◌^◌, ◌<◌, pos, ◌+ℤ◌};
 ghost use Rattle.std.specs.Int.Signed.{mag};
 ghost use Rattle.dsp_types.specs.Times.{slot_of, slots, div_euclid};
 ghost use Rattle.dsp_types.specs.Refusals.{not_bits};
@@ -61,6 +61,13 @@ impl TdmaTime {
         ensures { result.0 ≡ slot_of (pos (self.0 % slots) +ℤ n) }
     {
         TdmaTime(wrapped(self.to_int() as i64 + n as i64))
+    }
+
+    // The counter of its first sample, where slot 0 begins at 0. Its bound keeps the slot's end from wrapping.
+    pub fn start(self) -> u64
+        ensures { (result ≡ self.0 * 1020) × (result < 2 ^ 42) }
+    {
+        u64::from(self.0) * 1020
     }
 }
 

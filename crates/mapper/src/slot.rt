@@ -44,12 +44,12 @@ fn check_input(counter: SampleCount, slot: TdmaTime, bits: Option<&[u8]>) -> Res
     Ok(())
 }
 
-// The counter of a slot's first sample. Its bound keeps the slot's end from wrapping.
+// The counter of a slot's first sample.
 #[tactic(auto, unfolding(crate::specs::Due::start_of))]
 pub fn start_of(slot: TdmaTime) -> u64
     ensures { (result ≡ start_of slot.0) × (result < 2 ^ 42) }
 {
-    u64::from(slot.0) * 1020
+    slot.start()
 }
 
 // Whether bit i is 1. One that is missing counts as 0.

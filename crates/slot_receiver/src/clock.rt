@@ -11,13 +11,6 @@ ghost use Rattle.slot_receiver.specs.Bounds.{Within};
 use crate::{Mode, SlotReceiver};
 use dsp_types::{SampleCount, TdmaTime};
 
-// The samples from the beginning of slot 0 to that of this one.
-fn slots_long(slot: TdmaTime) -> i64
-    ensures { result ≡ pos (slot.0 * 1020) }
-{
-    (slot.0 as u64 * 1020) as i64
-}
-
 // Samples from the beginning of a slot to where it is ready to be demodulated.
 #[tactic(auto, unfolding(crate::specs::Receiver::slot_ready_from_begin))]
 fn slot_ready_from_begin(mode: Mode) -> i64
@@ -35,7 +28,7 @@ pub(crate) fn ready_time(mode: Mode, reference: SampleCount, slot: TdmaTime) -> 
     ensures { result.0 ≡ reference.0 +ℤ pos (slot.0 * 1020) +ℤ slot_ready_from_begin mode }
 {
     reference
-        .plus(slots_long(slot))
+        .plus(slot.start() as i64)
         .plus(slot_ready_from_begin(mode))
 }
 

@@ -9,6 +9,7 @@ ghost use Rattle.dsp_types.specs.Samples.{zero_f};
 ghost use Rattle.timing.specs.Turns.{curve_of, octant_of, quadrant_of, directed, quarter_turns, whole_of, fract_of};
 
 pub use estimate::estimate_timing;
+use std::num::saturating_f32_to_usize;
 
 // Whether (i, q) has a direction: both are numbers, and not both zero.
 #[tactic(auto, using(crate::proofs::Cases::finite_is), unfolding(crate::specs::Turns::directed))]
@@ -67,20 +68,12 @@ pub fn quarter_turns(i: f32, q: f32) -> f32
     }
 }
 
-// The whole quarter turns: the first sample of a symbol in its window.
-#[tactic(auto, using(crate::proofs::Cases::whole_tests))]
+// The whole quarter turns, at most 3: the first sample of a symbol in its window.
+#[tactic(auto, using(crate::proofs::Cases::whole_capped))]
 pub fn whole(t: f32) -> usize
     ensures { result ≡ whole_of t }
 {
-    if t >= 3.0 {
-        3
-    } else if t >= 2.0 {
-        2
-    } else if t >= 1.0 {
-        1
-    } else {
-        0
-    }
+    saturating_f32_to_usize(t).min(3)
 }
 
 // What is left of t: how far on from that sample. std's `fract` is another number at -1 and below and from 4 on, and
