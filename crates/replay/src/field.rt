@@ -1,25 +1,11 @@
 // The fields of a line, which are parted by one space, and the numbers, samples and bits that they hold.
 use dsp_types::{ComplexSample, SampleCount};
 
-// The values of a line's digits, each at its digit's place.
-pub(crate) type Block = [u8; 65536];
+// Room for the values of a line's fields: no line is longer.
+pub(crate) const ROOM: usize = 65536;
 
 pub(crate) fn count(line: &[u8]) -> usize {
     line.split(|byte| *byte == b' ').count()
-}
-
-// Where field k begins, counted from 0; the line's end where it has fewer.
-fn start_of(line: &[u8], k: usize) -> usize {
-    let mut left = k;
-    for (i, byte) in line.iter().enumerate() {
-        if left == 0 {
-            return i;
-        }
-        if *byte == b' ' {
-            left -= 1;
-        }
-    }
-    line.len()
 }
 
 // The bytes from a place on; none where there are fewer.
@@ -84,50 +70,29 @@ fn hex(line: &[u8], k: usize) -> Option<&[u8]> {
         && text.iter().all(|byte| byte.is_ascii_hexdigit()))
 }
 
-// So many of the values behind the mark of field k, where the block has those of the whole line.
-fn values_of<'a>(line: &[u8], values: &'a Block, k: usize, len: usize) -> &'a [u8] {
-    text::front(behind(values, start_of(line, k).wrapping_add(1)), len)
-}
-
-// The values of the digits in field k.
-pub(crate) fn bits<'a>(line: &[u8], values: &'a Block, k: usize) -> Option<&'a [u8]> {
-    Some(values_of(line, values, k, digits(line, k)?.len()))
-}
-
-// The block of a line, which is no longer than that.
-pub(crate) fn values(line: &[u8]) -> Block {
-    let mut block = [0; 65536];
-    for (value, byte) in block.iter_mut().zip(line) {
-        *value = byte.wrapping_sub(b'0');
+// The values of the digits in field k, for which the front of the room is taken off it.
+pub(crate) fn bits<'a>(line: &[u8], k: usize, room: &mut &'a mut [u8]) -> Option<&'a [u8]> {
+    let text = digits(line, k)?;
+    let values = room.split_off_mut(..text.len())?;
+    for (value, digit) in values.iter_mut().zip(text) {
+        *value = digit.wrapping_sub(b'0');
     }
-    block
+    Some(values)
 }
 
 fn hex_digit(byte: u8) -> u8 {
     char::from(byte).to_digit(16).unwrap_or_default() as u8
 }
 
-// Puts the byte of each pair of hexadecimal digits.
-fn put_pairs(bytes: &mut [u8], text: &[u8]) {
+// The bytes of field k, likewise: a digit's value each, or that of a pair of hexadecimal digits.
+pub(crate) fn bytes<'a>(line: &[u8], k: usize, room: &mut &'a mut [u8]) -> Option<&'a [u8]> {
+    let Some(text) = hex(line, k) else {
+        return bits(line, k, room);
+    };
     let (pairs, _) = text.as_chunks::<2>();
+    let bytes = room.split_off_mut(..pairs.len())?;
     for (byte, [high, low]) in bytes.iter_mut().zip(pairs) {
         *byte = hex_digit(*high) << 4 | hex_digit(*low);
     }
-}
-
-// Puts the bytes of field k, where its digits are hexadecimal, in the place of the digits' values.
-pub(crate) fn put_bytes(line: &[u8], values: &mut Block, k: usize) {
-    if let Some(text) = hex(line, k)
-        && let Some(bytes) = values.get_mut(start_of(line, k).wrapping_add(1)..)
-    {
-        put_pairs(bytes, text);
-    }
-}
-
-// The bytes of field k, whose digits or pairs of hexadecimal digits the block has the values of.
-pub(crate) fn bytes<'a>(line: &[u8], values: &'a Block, k: usize) -> Option<&'a [u8]> {
-    match hex(line, k) {
-        Some(text) => Some(values_of(line, values, k, text.len() / 2)),
-        None => bits(line, values, k),
-    }
+    Some(bytes)
 }

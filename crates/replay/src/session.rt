@@ -1,6 +1,6 @@
 // What a list of calls works on: receivers, a lone filter line, and a sender with its phase record.
 use crate::answer::{ok, refused, sample};
-use crate::field::{bits, count, counter, field, letter, number, values};
+use crate::field::{ROOM, bits, count, counter, field, letter, number};
 use crate::receivers::Receivers;
 use crate::{field, receivers, stateless, uplink};
 use dsp_types::{ComplexSample, TdmaTime};
@@ -33,13 +33,13 @@ impl Sender {
 
     // One sample, as a block of one. Bits that are given as `-` are none.
     fn send(&mut self, line: &[u8]) -> Option<Text> {
-        let values = values(line);
+        let mut room: &mut [u8] = &mut [0; ROOM];
         let counter = counter(line, 1)?;
         let time = TdmaTime(number(line, 2)?);
-        let bits = match letter(line, 3) {
-            Some(b'-') => None,
-            _ => Some(bits(line, &values, 3)?),
-        };
+        let bits = bits(line, 3, &mut room);
+        if bits.is_none() && letter(line, 3)? != b'-' {
+            return None;
+        }
         let mut parts = [0.0f32; 2];
         let sent = self
             .modulator

@@ -1,6 +1,6 @@
 // The calls that work on nothing that is kept: burst builders, the logger's call, magnitude and quarter turns.
 use crate::answer::{burst, float, refused, with_number};
-use crate::field::{bits, digits, letter, number, sample, values};
+use crate::field::{ROOM, bits, digits, letter, number, sample};
 use block_text::BurstType;
 use dsp_types::Refusal;
 use magnitude::magnitude;
@@ -21,10 +21,10 @@ pub(crate) fn build_joined(line: &[u8]) -> Option<Text> {
 
 // A burst from three slices.
 pub(crate) fn build(line: &[u8]) -> Option<Text> {
-    let values = values(line);
-    let blk1 = bits(line, &values, 2)?;
-    let bbk = bits(line, &values, 3)?;
-    let blk2 = bits(line, &values, 4)?;
+    let mut room: &mut [u8] = &mut [0; ROOM];
+    let blk1 = bits(line, 2, &mut room)?;
+    let bbk = bits(line, 3, &mut room)?;
+    let blk2 = bits(line, 4, &mut room)?;
     Some(built(match letter(line, 1) {
         Some(b'S') => build_sdb(blk1, bbk, blk2),
         _ => build_ndb(number(line, 1)?, blk1, bbk, blk2),
@@ -50,10 +50,10 @@ fn judged(kind: u32, bits: &[u8], len: usize) -> Option<Text> {
 
 // Has bits judged.
 pub(crate) fn judge(line: &[u8]) -> Option<Text> {
-    let values = values(line);
+    let mut room: &mut [u8] = &mut [0; ROOM];
     let kind = number(line, 1)?;
     let len = number(line, 2)? as usize;
-    judged(kind, bits(line, &values, 3)?, len)
+    judged(kind, bits(line, 3, &mut room)?, len)
 }
 
 pub(crate) fn magnitude_of(line: &[u8]) -> Option<Text> {

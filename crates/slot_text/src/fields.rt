@@ -34,6 +34,7 @@ impl Form {
         self.by_form(text, b" ", b",")
     }
 
+    // A struct of prefix and name would be made at each of six calls, and be read here alone: no plainer.
     fn with_name(self, text: Text, prefix: &[u8], name: &[u8]) -> Text
         ensures { result ≡ cut (text ++ (quoted self (prefix.now ++ name.now) ++ equals self)) }
     {
