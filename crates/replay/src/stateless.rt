@@ -56,6 +56,7 @@ pub(crate) fn judge(line: &[u8]) -> Option<Text> {
     judged(kind, bits(line, 3, &mut room)?, len)
 }
 
+// (One function for this and the next would be given what it makes of a sample's parts, and ask that it can be called: no plainer.)
 pub(crate) fn magnitude_of(line: &[u8]) -> Option<Text> {
     let x = sample(line, 1)?;
     Some(float(magnitude(x.re, x.im)))
