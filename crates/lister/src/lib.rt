@@ -33,7 +33,8 @@ fn refused(refusal: Refusal) -> Text
         .append(b"\n")
 }
 
-// What is printed of a burst. (Only a type gives one; that no type says, and `type_name` has a name for none.)
+// What is printed of a burst. (There is one only where the letter asks for a type, which the types do not say; `type_name` has a
+// name for none too.)
 fn built(burst_type: Option<BurstType>, burst: Burst) -> Text
     ensures { result ≡ cut (burst_lines (type_or_0 burst_type) burst.first_sum burst.last_sum burst.bits) }
 {

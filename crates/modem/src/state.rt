@@ -41,7 +41,7 @@ pub struct TetraTaken {
     pub state: State,
 }
 
-// A refusal's slot is all zeros. (As a `Default` it would read as a slot without bursts, which have 100 errors.)
+// A refusal's slot is all zeros. (As a `Default` it would read as a slot without bursts, whose views have 100 errors.)
 fn empty_slot() -> RxSlot
     ensures { result ≡ empty_slot }
 {

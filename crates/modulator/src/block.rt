@@ -64,8 +64,8 @@ fn fill(re: &mut [f32], im: &mut [f32], mapper: &mut DqpskMapper, stretch: Stret
     // A phase of its own for the loop: stepped behind the reference, a block takes a tenth longer.
     let mut next = *mapper;
     for n in 0..stretch.count {
-        let count = stretch.counter + n as u64 + 16;
-        let due = stretch.slot.due_at(count).unwrap_or(Due::Silence);
+        let delayed = stretch.counter + n as u64 + 16;
+        let due = stretch.slot.due_at(delayed).unwrap_or(Due::Silence);
         let x = next.symbol(due);
         re[n] = x.re;
         im[n] = x.im;

@@ -4,7 +4,7 @@ use arrayvec::ArrayVec;
 #[derive(Drop)]
 pub enum Line {
     Kept(ArrayVec<u8, 65536>),
-    // What comes behind a full line is let go.
+    // Neither it nor what comes behind is kept.
     TooLong,
 }
 

@@ -15,7 +15,7 @@ struct Burst<'a> {
     bits: &'a [u8],
 }
 
-// Where nothing is shown, nothing is appended: the equation is then of the form of the others.
+// Where nothing is shown, nothing is appended. (The text alone was tried: that a text which comes in is its own cut is not known.)
 impl Style {
     #[tactic(auto, unfolding(crate::specs::Lines::link_fields, crate::specs::Fields::fields_text, text::specs::Text::ascii))]
     fn with_link(self, text: Text) -> Text

@@ -53,11 +53,7 @@ pub(crate) fn receive<H: Host, R: Read + Drop>(rt: &H, from: R, options: Options
     let mut block = [0u8; 65536];
     let mut parts = [0.0f32; 16384];
     let mut past = History::new();
-    let style = Style {
-        form: options.form,
-        has_bits: options.has_bits,
-        link: Link::Alone,
-    };
+    let style = options.style(Link::Alone);
     let mut input = Input::new(from, options.format);
     let mut downlink = Downlink {
         receiver: State::new(Mode::DlUnsynchronized),

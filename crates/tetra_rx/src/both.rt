@@ -61,8 +61,7 @@ impl Both {
         let count = parts.len().min(up_parts.len()) / 2;
         let start = self.tally.counter;
         let mut at: usize = 0;
-        // A proved loop has to end, and a step in which the downlink leads takes no sample of both: it counts to a number that no
-        // run reaches.
+        // A proved loop has to end, and a step that leads takes no sample of both: it counts to a number that no run reaches.
         for _ in 0..u64::MAX {
             // A line of the downlink waits for the uplink.
             let is_held = self.links.line.is_some();
@@ -70,19 +69,16 @@ impl Both {
                 break;
             }
             let first = start.wrapping_add(at as u64);
-            let (link, n) = if 0 < self.links.behind {
-                (Link::Up, self.links.behind)
-            } else {
-                (Link::Down, step_length(&self.links.down, first))
+            let (link, n) = match self.links.behind {
+                0 => (Link::Down, step_length(&self.links.down, first)),
+                behind => (Link::Up, behind),
             };
-            let samples = samples_from(parts, at, n);
-            let up_samples = samples_from(up_parts, at, n);
             let heard = slot_lines::hear_links(
                 &mut self.links,
                 past,
                 up_past,
-                samples,
-                up_samples,
+                samples_from(parts, at, n),
+                samples_from(up_parts, at, n),
                 count_of(first),
                 style,
             );
@@ -110,11 +106,7 @@ pub(crate) fn receive<H: Host, R: Read + Drop>(rt: &H, from: R, up_from: R, opti
     let mut past = History::new();
     let mut up_past = History::new();
     // Whose link is each line's own.
-    let style = Style {
-        form: options.form,
-        has_bits: options.has_bits,
-        link: Link::Down,
-    };
+    let style = options.style(Link::Down);
     let mut down = Input::new(from, options.format);
     let mut up = Input::new(up_from, options.format);
     let mut both = Both::new(Tally::new(rt, options));

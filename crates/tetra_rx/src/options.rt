@@ -3,7 +3,7 @@ ghost use Rattle.std.specs.Prelude.{◌≤◌};
 
 use iq_format::Format;
 use program::{Kind, Named, Told, Word, Words};
-use slot_text::Form;
+use slot_text::{Form, Link, Style};
 use std::env::Env;
 use std::fmt;
 
@@ -38,6 +38,17 @@ pub(crate) struct Options {
     pub uplink: Option<Named>,
 }
 
+impl Options {
+    // How lines of that link are written.
+    pub(crate) fn style(self, link: Link) -> Style {
+        Style {
+            form: self.form,
+            has_bits: self.has_bits,
+            link,
+        }
+    }
+}
+
 // What the words up to the next one ask for.
 #[derive(Clone, Copy)]
 struct Reader {
@@ -47,7 +58,8 @@ struct Reader {
     options: Options,
 }
 
-// The next word, an option's value; where there is none, the words stay as they are.
+// The next word, an option's value. Where there is none, the words stay as they are: that reading never goes back is why the loop
+// below ends.
 fn value<'a, E: Env>(rt: &E, words: &mut Words, buf: &'a mut [u8]) -> Option<Word<'a>>
     ensures { words.old.at ≤ words.new.at }
 {

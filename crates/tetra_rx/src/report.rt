@@ -42,7 +42,7 @@ pub(crate) fn with_count(text: Text, n: u64, what: &[u8]) -> Text {
 pub(crate) fn with_mode(text: Text, mode: Mode) -> Text {
     match mode {
         Mode::Dl => text.append(b"locked"),
-        _ => text.append(b"searching"),
+        Mode::DlUnsynchronized | Mode::Idle | Mode::Ul => text.append(b"searching"),
     }
 }
 
