@@ -61,7 +61,8 @@ fn write_answer(f: Finding, answer: &mut [u8])
     ]);
 }
 
-// Judges kept window bits again: fills the six answer bytes, or refuses and leaves them alone.
+// Judges kept window bits again: fills the six answer bytes, or refuses and leaves them alone. The kind comes as C's number, of which
+// any has an answer.
 #[tactic(auto, unfolding(crate::specs::Judge::judge_answer), using(crate::proofs::Judging::room))]
 pub fn judge(kind: u32, bits: &[u8], answer: &mut [u8]) -> Result<(), Refusal>
     ensures refusal { answer_number result ≡ judge_refusal kind bits.now answer.old }

@@ -10,6 +10,7 @@ ghost use Rattle.modem.specs.Send.{bits_given, sender_in, sample_told};
 use dsp_types::{ComplexSample, Refusal, SampleCount, TdmaTime, answer_number};
 use modulator::{DqpskMapper, Modulator};
 
+// The sender and its phase record, which the source has apart.
 #[repr(C)]
 #[derive(Clone, Copy)]
 pub struct TetraSender {

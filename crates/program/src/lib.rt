@@ -135,7 +135,8 @@ fn read_words<H: Host>(rt: &H) -> Result<Named, Told<Wrong>> {
 }
 
 // Answers the command line of a program that reads standard input or one file, and has no options of its own: gives what
-// is to be read, or tells what was asked for or is wrong.
+// is to be read, or tells what was asked for or is wrong. (The `main` of three programs begins with it and differs in texts and in
+// what is read: one function over these is no plainer.)
 pub fn input<H: Host>(rt: &H, program: &[u8], text: &[u8]) -> Option<Source<H::File>> {
     match read_words(rt) {
         Ok(named) => open(rt, program, named),

@@ -23,7 +23,8 @@ fn take_refusal(slot: &[u8], subslot1: &[u8], subslot2: &[u8], waits: bool) -> R
     Ok(())
 }
 
-// Takes the slot that waits: its views fill 510, 254 and 254 lent bytes. Or refuses, and everything stays as it is.
+// Takes the slot that waits: its views fill 510, 254 and 254 lent bytes, three slices as the source's call and C lend them. Or
+// refuses, and everything stays as it is.
 pub fn take_demodulated_slot(
     slots: &mut SlotReceiver,
     slot: &mut [u8],

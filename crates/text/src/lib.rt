@@ -97,7 +97,7 @@ impl Text {
         self.append(&characters[..count])
     }
 
-    // With a burst type's name behind it.
+    // With a burst type's name behind it, by the type's number: any that C's `RxBurst` stores has a name.
     #[tactic(auto, unfolding(crate::specs::Text::type_name, crate::specs::Text::ascii))]
     pub fn type_name(self, burst_type: u32) -> Text
         ensures { result ≡ cut (self ++ type_name burst_type) }
