@@ -2,6 +2,7 @@
 #![tactic(auto)]
 
 use lister::Input;
+use program::Taker;
 use std::io::Read;
 use streams::Host;
 
@@ -15,14 +16,21 @@ fn list<H: Host>(rt: &H, input: &Input) {
     );
 }
 
-fn read_all<H: Host, R: Read>(rt: &H, from: &mut R) {
-    let mut input = Input::new();
-    let is_read = program::read_blocks(rt, from, b"listing: the input cannot be read", |block| {
-        input.feed(block);
+// What is kept of the input.
+#[derive(Drop)]
+struct Kept(Input);
+
+impl Taker for Kept {
+    fn take<H: Host>(&mut self, _rt: &H, block: &[u8]) -> bool {
+        self.0.feed(block);
         true
-    });
-    if is_read {
-        list(rt, &input);
+    }
+}
+
+fn read_all<H: Host, R: Read>(rt: &H, from: &mut R) {
+    let mut kept = Kept(Input::new());
+    if program::read_blocks(rt, from, b"listing: the input cannot be read", &mut kept) {
+        list(rt, &kept.0);
     }
 }
 

@@ -147,23 +147,27 @@ pub fn input<H: Host>(rt: &H, program: &[u8], text: &[u8]) -> Option<Source<H::F
     }
 }
 
-// Gives what is read to a function, a block at a time, until that wants no more or the input ends. The answer is false, and
-// a line on standard error tells why, where the input cannot be read.
-pub fn read_blocks<H: Host, R: Read, F: FnMut(&[u8]) -> bool>(
+// What the blocks of an input are given to.
+pub trait Taker {
+    // Whether it wants more.
+    fn take<H: Host>(&mut self, rt: &H, block: &[u8]) -> bool;
+}
+
+// Gives away what is read, a block at a time, until no more is wanted or the input ends. The answer is false, and a line on
+// standard error tells why, where the input cannot be read.
+pub fn read_blocks<H: Host, R: Read, T: Taker>(
     rt: &H,
     from: &mut R,
     what: &[u8],
-    mut take: F,
-) -> bool
-    requires { (f : _) (x : _) → F.pre f x }
-{
+    taker: &mut T,
+) -> bool {
     let mut block = [0u8; 65536];
     // A proved loop has to end, and nothing says that an input does: it counts to a number that no run reaches.
     for _ in 0..u64::MAX {
         let Some(n) = streams::read_or_tell(rt, from, &mut block, what) else {
             return false;
         };
-        if n == 0 || !take(&block[..n]) {
+        if n == 0 || !taker.take(rt, &block[..n]) {
             return true;
         }
     }

@@ -17,54 +17,57 @@ mod uplink;
 use answer::error;
 use input::Line;
 use output::Output;
+use program::Taker;
 use session::Session;
 use std::io::Read;
 use streams::Host;
 
-// What the calls work on, and their answers.
+// The line that is read, what the calls work on, and their answers.
 #[derive(Drop)]
 struct Replayer {
+    line: Line,
     session: Session,
     out: Output,
 }
 
 impl Replayer {
-    // Makes the call of a line.
-    fn call<H: Host>(&mut self, rt: &H, line: &[u8]) {
-        self.out.add(rt, self.session.step(line).unwrap_or(error()));
+    // Makes the call of the line.
+    fn call<H: Host>(&mut self, rt: &H) {
+        let answer = self.session.step(self.line.text()).unwrap_or(error());
+        self.out.add(rt, answer);
     }
+}
 
-    // Makes the calls of the lines that end in these bytes. (tetra_tx parts lines so too: one function for both would have to
-    // be given how each keeps, clears and reads its line, and be no plainer.)
-    fn calls<H: Host>(&mut self, rt: &H, line: &mut Line, bytes: &[u8]) {
-        for byte in bytes {
+// Makes the calls of the lines that end in a block. (tetra_tx parts lines so too: one function for both would have to be given
+// how each keeps, clears and reads its line, and be no plainer.)
+impl Taker for Replayer {
+    fn take<H: Host>(&mut self, rt: &H, block: &[u8]) -> bool {
+        for byte in block {
             if *byte == b'\n' {
-                self.call(rt, line.text());
-                line.clear();
+                self.call(rt);
+                self.line.clear();
             } else {
-                line.push(*byte);
+                self.line.push(*byte);
             }
         }
+        !self.out.is_broken
     }
 }
 
 fn run<H: Host, R: Read>(rt: &H, from: &mut R) {
-    let mut line = Line::new();
     let mut replayer = Replayer {
+        line: Line::new(),
         session: Session::new(),
         out: Output::new(),
     };
-    let is_read = program::read_blocks(rt, from, b"replay: the input cannot be read", |block| {
-        replayer.calls(rt, &mut line, block);
-        !replayer.out.is_broken
-    });
-    if !is_read {
+    let what = b"replay: the input cannot be read";
+    if !program::read_blocks(rt, from, what, &mut replayer) {
         // What was read of a line before that is no line.
-        line.clear();
+        replayer.line.clear();
     }
     // No newline ends the last line.
-    if !line.is_empty() {
-        replayer.call(rt, line.text());
+    if !replayer.line.is_empty() {
+        replayer.call(rt);
     }
     replayer.out.flush(rt);
 }

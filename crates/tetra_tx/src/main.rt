@@ -5,46 +5,56 @@ mod sender;
 mod slot;
 
 use arrayvec::ArrayVec;
+use program::Taker;
 use sender::Sender;
 use std::io::Read;
 use streams::Host;
 
-// What is kept of a line (`block_text::push`).
-type Line = ArrayVec<u8, 512>;
-
-fn send_line<H: Host>(rt: &H, sender: &mut Sender, line: &Line) {
-    sender.line(rt, text::trimmed(line.as_slice(), b'\r'));
+// What is kept of the line that is read (`block_text::push`), and what sends its slot.
+#[derive(Drop)]
+struct Lines {
+    line: ArrayVec<u8, 512>,
+    sender: Sender,
 }
 
-// Sends the slots of the lines that end in these bytes. (replay parts lines so too: one function for both would have to be
-// given how each keeps, clears and reads its line, and be no plainer.)
-fn send_lines<H: Host>(rt: &H, sender: &mut Sender, line: &mut Line, bytes: &[u8]) {
-    for byte in bytes {
-        if *byte == b'\n' {
-            send_line(rt, sender, &*line);
-            line.clear();
-        } else {
-            block_text::push(line, *byte);
+impl Lines {
+    fn send<H: Host>(&mut self, rt: &H) {
+        let line = text::trimmed(self.line.as_slice(), b'\r');
+        self.sender.line(rt, line);
+    }
+}
+
+// Sends the slots of the lines that end in a block. (replay parts lines so too: one function for both would have to be given
+// how each keeps, clears and reads its line, and be no plainer.)
+impl Taker for Lines {
+    fn take<H: Host>(&mut self, rt: &H, block: &[u8]) -> bool {
+        for byte in block {
+            if *byte == b'\n' {
+                self.send(rt);
+                self.line.clear();
+            } else {
+                block_text::push(&mut self.line, *byte);
+            }
         }
+        self.sender.is_open
     }
 }
 
 fn send_all<H: Host, R: Read>(rt: &H, from: &mut R) {
-    let mut line = Line::new();
-    let mut sender = Sender::new();
-    let is_read = program::read_blocks(rt, from, b"tetra_tx: the input cannot be read", |block| {
-        send_lines(rt, &mut sender, &mut line, block);
-        sender.is_open
-    });
-    if !is_read {
+    let mut lines = Lines {
+        line: ArrayVec::new(),
+        sender: Sender::new(),
+    };
+    let what = b"tetra_tx: the input cannot be read";
+    if !program::read_blocks(rt, from, what, &mut lines) {
         // What was read of a line before that is not all of it.
-        line.clear();
+        lines.line.clear();
     }
     // No newline ends the last line; a slot without a burst follows it.
-    if !line.is_empty() {
-        send_line(rt, &mut sender, &line);
+    if !lines.line.is_empty() {
+        lines.send(rt);
     }
-    sender.silence(rt);
+    lines.sender.silence(rt);
 }
 
 fn main(rt: HostRuntime) {
