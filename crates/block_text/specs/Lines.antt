@@ -102,14 +102,28 @@ complaint_for (answered type reply) = complaint_of type reply.number
 complaint_for (refused complaint) = Some complaint
 complaint_for (placed bits) = None
 
--- an answer of the code in these terms: the slots that are sent
-abbrev pub slots_of : Result LineSlot Complaint → List (List ℕ)
-slots_of (Ok LineSlot.Nothing) = []
-slots_of (Ok LineSlot.Empty) = [] ∷ []
-slots_of (Ok (Bits bits)) = bits ∷ []
-slots_of (Err complaint) = [] ∷ []
+-- a slot as the code hands it on
+abbrev pub slots_of : LineSlot → List (List ℕ)
+slots_of LineSlot.Nothing = []
+slots_of LineSlot.Empty = [] ∷ []
+slots_of (Bits bits) = bits ∷ []
+
+-- .. and what is sent for a line by how the code judges it
+abbrev pub judged_slots : Result LineSlot Complaint → List (List ℕ)
+judged_slots (Ok slot) = slots_of slot
+judged_slots (Err complaint) = [] ∷ []
 
 -- .. and what is said of the line
 abbrev pub complaint_in : Result LineSlot Complaint → Option Complaint
 complaint_in (Ok slot) = None
 complaint_in (Err complaint) = Some complaint
+
+-- what is said, of a line of `tetra_tx`
+unfoldable pub complaint_text : Complaint → List ℕ
+complaint_text NotBits = ascii "a bit is neither 0 nor 1"
+complaint_text SyncLength = ascii "sync takes 366 bits"
+complaint_text NormalLength = ascii "a normal burst takes 462 bits"
+complaint_text UplinkLength = ascii "an uplink burst takes 432 bits"
+complaint_text ControlLength = ascii "a control burst takes 168 bits"
+complaint_text Offset = ascii "the offset is no even number from 0 to 48"
+complaint_text Complaint.Unknown = ascii "not sync, normal1, normal2, uplink1, uplink2 or control with bits, nor empty"

@@ -5,14 +5,14 @@ mod line;
 mod slot;
 mod uplink;
 
-ghost use Rattle.std.specs.Prelude.{◌≡◌, map, length, None, Some, IfOk, IfSome};
+ghost use Rattle.std.specs.Prelude.{◌≡◌, map, length, IfOk};
 ghost use Rattle.dsp_types.specs.Answers.{answer_number};
 ghost use Rattle.slotter.specs.Bursts.{builder_reply};
-ghost use Rattle.block_text.specs.BlockText.{downlink_type, type_or_0, letter_type, wanted, not_character, not_characters, characters_refusal, character_bit, burst_of, answer_of};
+ghost use Rattle.block_text.specs.BlockText.{downlink_type, type_or_0, letter_type, wanted, not_character, not_characters, wrong_count, characters_refusal, character_bit, burst_of, answer_of};
 
 use dsp_types::Refusal;
 pub use line::push;
-pub use slot::{Complaint, LineSlot, slot_of};
+pub use slot::{Complaint, LineRead, LineSlot, slot_of};
 use slotter::Burst;
 
 // The type of a downlink burst.
@@ -42,17 +42,14 @@ impl BurstType {
     {
         self as u32
     }
+}
 
-    // How many characters the blocks have.
-    #[tactic(auto, unfolding(crate::specs::BlockText::wanted))]
-    fn length(self) -> usize
-        ensures { result ≡ wanted (downlink_type self) }
-    {
-        match self {
-            BurstType::Sync => 366,
-            BurstType::Normal1 | BurstType::Normal2 => 462,
-        }
-    }
+// How many characters the blocks of a type have.
+#[tactic(auto, unfolding(crate::specs::BlockText::wanted))]
+fn wanted_length(burst_type: u32) -> usize
+    ensures { result ≡ wanted burst_type }
+{
+    if burst_type == 4 { 366 } else { 462 }
 }
 
 // Whether a character is other than 0 and 1.
@@ -63,27 +60,42 @@ pub fn not_character(c: u8) -> bool
     c != b'0' && c != b'1'
 }
 
-// Whether some character is other than 0 and 1.
+// Whether some character is other than 0 and 1. It looks at every one, so that the compiler can take many at once, as
+// dsp_types' `not_bits` does.
 fn not_characters(characters: &[u8]) -> bool
     ensures { result ≡ not_characters characters.now }
 {
-    characters.iter().any(|c| not_character(*c))
+    let mut found = false;
+    for c in characters {
+        found |= not_character(*c);
+    }
+    found
 }
 
-// The burst type behind a letter, whose characters are not refused.
-#[tactic(auto, unfolding(crate::specs::BlockText::characters_refusal, crate::specs::BlockText::wrong_count, dsp_types::specs::Refusals::wrong_length))]
-fn judged_type(burst_type: Option<BurstType>, characters: &[u8]) -> Result<BurstType, Refusal>
-    ensures refusal { answer_number result ≡ characters_refusal (type_or_0 burst_type) characters.now }
-    ensures known { IfOk result (λ t. burst_type ≡ Some t) }
-    ensures length { IfOk result (λ t. length characters.now ≡ wanted (downlink_type t)) }
+// Whether the characters behind a letter of that type are too few or too many. For another letter no length is judged.
+#[tactic(auto, unfolding(crate::specs::BlockText::wrong_count, dsp_types::specs::Refusals::wrong_length))]
+fn wrong_length(burst_type: u32, characters: &[u8]) -> bool
+    ensures { result ≡ wrong_count burst_type characters.now }
 {
-    if burst_type.is_some_and(|known| characters.len() != known.length()) {
+    burst_type != 0 && characters.len() != wanted_length(burst_type)
+}
+
+// Refuses the characters behind a letter of that type: 3, 4, or 5 for another letter.
+#[tactic(auto, unfolding(crate::specs::BlockText::characters_refusal, crate::specs::BlockText::wrong_count, dsp_types::specs::Refusals::wrong_length))]
+fn check(burst_type: u32, characters: &[u8]) -> Result<(), Refusal>
+    ensures refusal { answer_number result ≡ characters_refusal burst_type characters.now }
+    ensures length { IfOk result (λ _. length characters.now ≡ wanted burst_type) }
+{
+    if wrong_length(burst_type, characters) {
         return Err(Refusal::BadLength);
     }
     if not_characters(characters) {
         return Err(Refusal::BadBit);
     }
-    burst_type.ok_or(Refusal::BadTraining)
+    if burst_type == 0 {
+        return Err(Refusal::BadTraining);
+    }
+    Ok(())
 }
 
 // The bit that a character stands for.
@@ -104,32 +116,26 @@ fn bits_of<const N: usize>(characters: &[u8]) -> [u8; N]
 
 // The burst of a type, from the characters of its blocks.
 #[tactic(auto, unfolding(crate::specs::BlockText::wanted))]
-fn burst_of(burst_type: BurstType, characters: &[u8]) -> Result<Burst, Refusal>
-    requires { length characters.now ≡ wanted (downlink_type burst_type) }
-    ensures { builder_reply result ≡ burst_of (downlink_type burst_type) (map character_bit characters.now) }
+fn burst_of(burst_type: u32, characters: &[u8]) -> Result<Burst, Refusal>
+    requires { length characters.now ≡ wanted burst_type }
+    ensures { builder_reply result ≡ burst_of burst_type (map character_bit characters.now) }
 {
-    match burst_type {
-        BurstType::Sync => {
-            let bits = bits_of::<366>(characters);
-            slotter::build_sdb(&bits[..120], &bits[120..150], &bits[150..])
-        }
-        BurstType::Normal1 | BurstType::Normal2 => {
-            let bits = bits_of::<462>(characters);
-            slotter::build_ndb(
-                burst_type.number(),
-                &bits[..216],
-                &bits[216..246],
-                &bits[246..],
-            )
-        }
+    if burst_type == 4 {
+        let bits = bits_of::<366>(characters);
+        slotter::build_sdb(&bits[..120], &bits[120..150], &bits[150..])
+    } else {
+        let bits = bits_of::<462>(characters);
+        slotter::build_ndb(burst_type, &bits[..216], &bits[216..246], &bits[246..])
     }
 }
 
-// The burst of a type from its blocks' bits in burst order as characters 0 and 1, or their refusal: 3, 4, or 5 for no type,
-// another letter, of which no length is judged.
+// The burst of a type, 4 sync, 1 or 2 normal, from its blocks' bits in burst order as characters 0 and 1, or their
+// refusal: 3, 4, or 5 for another type. For type 0, another letter, no length is judged. (The type comes as 01's number, of
+// which any has an answer.)
 #[tactic(auto, using(crate::proofs::Judged::refuses, crate::proofs::Judged::accepts))]
-pub fn answer(burst_type: Option<BurstType>, characters: &[u8]) -> Result<Burst, Refusal>
-    ensures { builder_reply result ≡ answer_of (type_or_0 burst_type) characters.now }
+pub fn answer(burst_type: u32, characters: &[u8]) -> Result<Burst, Refusal>
+    ensures { builder_reply result ≡ answer_of burst_type characters.now }
 {
-    burst_of(judged_type(burst_type, characters)?, characters)
+    check(burst_type, characters)?;
+    burst_of(burst_type, characters)
 }

@@ -2,7 +2,7 @@
 ghost use Rattle.std.specs.Prelude.{◌≡◌, ◌+◌, ◌<◌, ◌≤◌, [], length, take, drop, true, false, Some, MatchOption};
 ghost use Rattle.slotter.specs.Uplink.{uplink_reply, uplink_bits, placed};
 ghost use Rattle.block_text.specs.UplinkLines.{uplink_type, first_word, after_word, digit_of, offset_of, not_offset, uplink_wanted, uplink_slot};
-ghost use Rattle.block_text.specs.Lines.{uplink, length_complaint, sent_for, slots_for, slots_of, complaint_for, complaint_in};
+ghost use Rattle.block_text.specs.Lines.{uplink, length_complaint, sent_for, slots_for, judged_slots, complaint_for, complaint_in};
 
 use crate::slot::{Complaint, LineSlot};
 use crate::{bits_of, not_characters};
@@ -121,7 +121,7 @@ fn placed_burst(burst_type: UplinkType, offset: usize, characters: &[u8]) -> [u8
 // The slot of an uplink burst of that type, from what stands behind its word.
 #[tactic(auto, unfolding(crate::specs::Lines::sent_for, crate::specs::Lines::uplink_sent, crate::specs::Lines::slots_for, crate::specs::Lines::complaint_for, dsp_types::specs::Refusals::wrong_length))]
 pub(crate) fn uplink_slot(burst_type: UplinkType, text: &[u8]) -> Result<LineSlot, Complaint>
-    ensures slots { slots_of result ≡ slots_for (sent_for (uplink (uplink_type burst_type) text.now)) }
+    ensures slots { judged_slots result ≡ slots_for (sent_for (uplink (uplink_type burst_type) text.now)) }
     ensures complaint { complaint_in result ≡ complaint_for (sent_for (uplink (uplink_type burst_type) text.now)) }
 {
     let (word, characters) = split_word(text);

@@ -66,6 +66,12 @@ lt_z_no (pos a) (negsuc b) h = refl
 lt_z_no (negsuc a) (pos b) h = absurd (omega arith)
 lt_z_no (negsuc a) (negsuc b) h = le-ltb b a (omega arith)
 
+pub lt_z_true : (x y : ℤ) → lt_z x y ≡ true → up x + dn y < up y + dn x
+lt_z_true (pos a) (pos b) e = omega (arith, ltb-true a b e)
+lt_z_true (pos a) (negsuc b) e = absurd (let z : ◌≡◌ {A = ℕ} 0 1 = cc in omega arith)
+lt_z_true (negsuc a) (pos b) e = omega arith
+lt_z_true (negsuc a) (negsuc b) e = omega (arith, ltb-true b a e)
+
 pub lt_z_false : (x y : ℤ) → lt_z x y ≡ false → up y + dn x ≤ up x + dn y
 lt_z_false (pos a) (pos b) e = omega (arith, ltb-false a b e)
 lt_z_false (pos a) (negsuc b) e = omega arith

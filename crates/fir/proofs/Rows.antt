@@ -6,8 +6,7 @@ use Prim.Native.Nat.{ℕ, zero, suc, ◌+◌, ◌-◌, ◌*◌, ◌<◌, ◌≤�
 use native.Mathlib.Omega.{arith}
 use native.Mathlib.Numerals.{add-one, one-add}
 use lib.ListN.{get_or, length, set, take, drop, replicate, get_or-replicate, length-set, length-drop, get_or-append}
-use lib.Seq.{paste, drop-cons, drop-drop, take_all, get_or_at, get_or-drop, get_or-set_same, get_or-set_other, set_at, append_snoc}
-use Rattle.std.proofs.lemmas.List.Edits.{paste_all}
+use lib.Seq.{drop-cons, drop-drop, take_all, get_or_at, get_or-drop, get_or-set_same, get_or-set_other, set_at, append_snoc}
 use lib.Ieee.{Float, binary32, add, mul, nan}
 use Rattle.dsp_types.specs.declared.ComplexSample.{ComplexSample}
 use Rattle.dsp_types.specs.Samples.{zero_f, silence, ago}
@@ -104,17 +103,11 @@ row_later row x h (suc d) k =
     let e : 1 + (31 - suc d) ≡ 31 - d = omega arith in
     get_or-append (drop 1 row) (x ∷ []) nan (31 - suc d) (rw (length-drop 1 row) (omega arith)) ∙ get_or-drop 1 row (31 - suc d) nan ∙ rw e
 
--- a copy of it without its oldest element, with x behind it
-pub shift : (row : List Float) (x : Float) → length row ≡ 32 → set (paste row 0 (drop 1 row) (length row - 1)) 31 x ≡ drop 1 row ++ (x ∷ [])
-shift row x h =
+-- a copy of it without its oldest element, with x behind it in place of another element
+pub shift : (row : List Float) (y x : Float) → length row ≡ 32 → set (take 31 (drop 1 row) ++ (y ∷ [])) 31 x ≡ drop 1 row ++ (x ∷ [])
+shift row y x h =
     let n : length (drop 1 row) ≡ 31 = length-drop 1 row ∙ omega arith in
-    let last : length (drop 31 row) ≡ 1 = length-drop 31 row ∙ omega arith in
-    rw (paste_all row 0 (drop 1 row) (length row - 1) (sym (length-drop 1 row)), h) (one (drop 31 row) last n)
-  where
-    one : (end : List Float) → length end ≡ 1 → length (drop 1 row) ≡ 31 → set (drop 1 row ++ end) 31 x ≡ drop 1 row ++ (x ∷ [])
-    one [] l n = absurd (omega arith)
-    one (y ∷ []) l n = set_at (drop 1 row) y [] x 31 n
-    one (y ∷ z ∷ end) l n = absurd (omega arith)
+    rw (take_all 31 (drop 1 row) (omega arith)) (set_at (drop 1 row) y [] x 31 n)
 
 -- the samples of two rows
 abbrev pub in_rows : List Float → List Float → ℕ → ComplexSample

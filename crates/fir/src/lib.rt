@@ -65,12 +65,13 @@ fn filter_block(row: &[f32], out: &mut [f32])
 }
 
 // One part of the line takes x as its newest sample.
-#[tactic(auto, using(crate::proofs::Rows::shift))]
 fn push(line: &mut [f32; 32], x: f32)
     ensures { line.new ≡ drop 1 line.old ++ (x ∷ []) }
 {
-    line.copy_within(1.., 0);
-    line[31] = x;
+    let mut next = [0.0f32; 32];
+    next[..31].copy_from_slice(&line[1..]);
+    next[31] = x;
+    *line = next;
 }
 
 // One part of a block: writes its outputs, and the line takes the block.

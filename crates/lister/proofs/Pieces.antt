@@ -1,14 +1,14 @@
 -- Inputs with the same listing, whatever follows: too many characters are too many, and behind another letter only a wrong character counts.
 use mathlib.Core.Path.{◌≡◌, refl, sym, ap, ◌∙◌, subst}
 use mathlib.Core.Bool.{Bool, true, false, cond, ◌||◌, or_assoc, or-true}
-use mathlib.Core.List.{List, [], ◌∷◌, ◌++◌, append-nil}
-use Prim.Native.Nat.{ℕ, ◌≤◌}
+use mathlib.Core.List.{List, [], ◌∷◌, ◌++◌}
+use Prim.Native.Nat.{ℕ, ◌+◌, ◌≤◌, ◌<◌}
+use native.Mathlib.Numerals.{add-one}
 use native.Mathlib.Omega.{arith}
 use lib.Dec.{eqb}
 use lib.ListN.{length, take, drop, get_or, set, length-append, length-drop, drop_of_length-le}
-use lib.Seq.{append_snoc, set_at, split_at, length-take-le, take_all}
+use lib.Seq.{append_snoc, take-suc-set, set_at, split_at, length-take-le, take_all}
 use borrow.Author.Tests.{ne_eqb}
-use Rattle.std.specs.List.{refill}
 use Rattle.dsp_types.specs.Refusals.{wrong_length}
 use Rattle.slotter.specs.Bursts.{refusal}
 use Rattle.text.specs.Text.{trimmed}
@@ -18,13 +18,8 @@ use Rattle.block_text.proofs.Blocks.{wanted_most}
 use Rattle.lister.specs.Listing.{listed_answer, listed, listing}
 
 -- room for one more
-pub one_more : (B : List ℕ) (b : ℕ) (t : List ℕ) → listing ((B ++ (b ∷ [])) ++ t) ≡ listing (B ++ (b ∷ t))
-one_more B b t = ap listing (append_snoc B b t)
-
--- what a write of all bytes leaves
-pub refilled : (xs ws : List ℕ) → length ws ≡ length xs → refill (length xs) xs ws ≡ ws
-refilled xs ws h =
-    rw (drop_of_length-le xs {i = length ws} (omega (arith, h)), append-nil ws) (take_all (length xs) ws (omega (arith, h)))
+pub one_more : (B : List ℕ) (n b : ℕ) → n < length B → (t : List ℕ) → listing (take (n + 1) (set B n b) ++ t) ≡ listing (take n B ++ (b ∷ t))
+one_more B n b h t = ap listing (rw (add-one n, take-suc-set B n b h) (append_snoc (take n B) b t))
 
 -- ---- a letter and more characters than any type has
 
@@ -102,3 +97,8 @@ last_wrong B b n e t =
     let k : length ys ≡ 462 = length-take-le 462 (drop 2 B) (omega (arith, length-drop 2 B)) in
     subst (λ (L : List ℕ). listing (set (set L 1 (get_or B 464 0)) 464 b ++ t) ≡ listing (L ++ (b ∷ t))) (sym (ends B n))
     (rw (set_at ys (get_or B 464 0) [] b 462 k) (wrong (get_or B 0 0) (get_or B 1 0) (get_or B 464 0) b ys t k e))
+
+-- the same of what is kept, where that is all
+pub whole : (B W : List ℕ) (n b : ℕ) → length B ≤ n → length W ≤ n → ((t : List ℕ) → listing (W ++ t) ≡ listing (B ++ (b ∷ t)))
+    → (t : List ℕ) → listing (take n W ++ t) ≡ listing (take n B ++ (b ∷ t))
+whole B W n b h k e t = rw (take_all n W k, take_all n B h) (e t)

@@ -9,7 +9,6 @@ ghost use Rattle.block_text.specs.BlockText.{type_or_0};
 ghost use Rattle.lister.specs.Listing.{signed_decimal, refusal_line, burst_lines, listed_answer, listing};
 ghost use Rattle.lister.specs.Inputs.{input_bytes};
 
-use arrayvec::ArrayVec;
 use block_text::{BurstType, answer, not_character};
 use dsp_types::Refusal;
 use slotter::Burst;
@@ -69,7 +68,10 @@ fn listing(input: &[u8]) -> Text
         return refused(Refusal::BadLength);
     };
     let burst_type = BurstType::of_letter(*letter);
-    print(burst_type, answer(burst_type, characters))
+    print(
+        burst_type,
+        answer(burst_type.map_or(0, BurstType::number), characters),
+    )
 }
 
 // Keeps one byte more where there is no room. 465 bytes are too many for each of the three letters. Behind another letter what
@@ -86,27 +88,32 @@ fn replace_last(bytes: &mut [u8], b: u8)
 }
 
 // What is kept of an input that comes in pieces: bytes with the same listing, whatever follows.
-#[derive(Drop)]
+#[derive(Clone, Copy)]
 pub struct Input {
-    bytes: ArrayVec<u8, 465>,
+    pub bytes: [u8; 465],
+    pub len: usize,
 }
 
 impl Input {
+    #[tactic(auto, unfolding(crate::specs::Inputs::input_bytes))]
     pub fn new() -> Input
         ensures { input_bytes result ≡ [] }
     {
         Input {
-            bytes: ArrayVec::new(),
+            bytes: [0; 465],
+            len: 0,
         }
     }
 
     // One byte more.
-    #[tactic(auto, using(crate::proofs::Pieces::one_more, crate::proofs::Pieces::refilled))]
     fn push(&mut self, b: u8)
         ensures { (t : List ℕ) → listing (input_bytes self.new ++ t) ≡ listing (input_bytes self.old ++ (b ∷ t)) }
     {
-        if self.bytes.try_push(b).is_err() {
-            replace_last(self.bytes.as_mut_slice(), b);
+        if self.len < 465 {
+            self.bytes[self.len] = b;
+            self.len += 1;
+        } else {
+            replace_last(&mut self.bytes, b);
         }
     }
 
@@ -123,6 +130,6 @@ impl Input {
     pub fn listed(&self) -> Text
         ensures { result ≡ listing (input_bytes self.now) }
     {
-        listing(self.bytes.as_slice())
+        listing(text::front(&self.bytes, self.len))
     }
 }

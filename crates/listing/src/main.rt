@@ -17,7 +17,7 @@ fn list<H: Host>(rt: &H, input: &Input) {
 }
 
 // What is kept of the input.
-#[derive(Drop)]
+#[derive(Clone, Copy)]
 struct Kept(Input);
 
 impl Taker for Kept {
@@ -28,8 +28,10 @@ impl Taker for Kept {
 }
 
 fn read_all<H: Host, R: Read>(rt: &H, from: &mut R) {
+    let mut block = [0u8; 4096];
     let mut kept = Kept(Input::new());
-    if program::read_blocks(rt, from, b"listing: the input cannot be read", &mut kept) {
+    let what = b"listing: the input cannot be read";
+    if program::read_blocks(rt, from, what, &mut block, &mut kept) {
         list(rt, &kept.0);
     }
 }

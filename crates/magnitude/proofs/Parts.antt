@@ -7,7 +7,7 @@ use native.Mathlib.Omega.{arith}
 use mathlib.Core.Bool.{Bool, true, false, not, ◌&&◌, ◌||◌, cond, true≢false}
 use lib.Dec.{T, leb}
 use borrow.Author.Tests.{le-ltb}
-use lib.Ieee.{Float, nan, inf, fin, binary32, binary64, le, is_nan, nan_bits, fits, of_bits, to_bits}
+use lib.Ieee.{Float, nan, inf, fin, binary32, binary64, lt, le, is_nan, nan_bits, fits, of_bits, to_bits}
 use lib.Ieee.Bits.{of_bits-to_bits, nan_bits_above, is_false}
 use lib.Ieee.Scale.{finite}
 use Rattle.std.specs.Float.{float_is_finite, IsFloatMin}
@@ -24,6 +24,13 @@ unfolding float_is_finite
 finite_is nan = refl
 finite_is (inf s) = refl
 finite_is (fin s m e) = refl
+
+-- ---- what is below another is no NaN
+pub below_not_nan : (x y : Float) → lt x y ≡ true → T (not (is_nan x))
+unfolding lt is_nan
+below_not_nan nan y e = absurd (true≢false (sym e))
+below_not_nan (inf s) y e = tt
+below_not_nan (fin s m k) y e = tt
 
 -- the lesser of x and a number is a number, and one of the two
 pub min_is : (x c r : Float) → T (not (is_nan c)) → IsFloatMin x c r → T (not (is_nan r)) × ((r ≡ x) ⊎ (r ≡ c))

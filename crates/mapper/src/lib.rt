@@ -4,10 +4,11 @@
 
 mod slot;
 
-ghost use Rattle.std.specs.Prelude.{◌≡◌, Ok};
+ghost use Rattle.std.specs.Prelude.{◌≡◌};
 ghost use Rattle.mapper.specs.Dqpsk.{turn_of, next_phase, point_of, phase_after, input_of};
+ghost use Rattle.mapper.specs.Due.{numbered};
 
-use dsp_types::ComplexSample;
+use dsp_types::{ComplexSample, Refusal};
 pub use slot::{SlotToSend, due_now, start_of};
 
 // What a call of the sender is to feed to its filter. An `Option` of two bits would not say that silence is fed.
@@ -90,23 +91,24 @@ fn point(phase: u8) -> ComplexSample
 
 // The phase after what is due.
 #[tactic(auto, unfolding(crate::specs::Dqpsk::phase_after))]
-fn phase_after(phase: u8, due: Due) -> u8
-    ensures { result ≡ phase_after phase (Ok due) }
+fn phase_after(phase: u8, due: Result<Due, Refusal>) -> u8
+    ensures { result ≡ phase_after phase (numbered due) }
 {
     match due {
-        Due::Symbol(bit0, bit1) => next_phase(phase, bit0, bit1),
-        Due::Silence => phase,
+        Ok(Due::Symbol(bit0, bit1)) => next_phase(phase, bit0, bit1),
+        Ok(Due::Silence) => phase,
+        Err(_) => phase,
     }
 }
 
 // The sample that is fed, where this is the phase after what is due.
 #[tactic(auto, unfolding(crate::specs::Dqpsk::input_of))]
-fn input(phase: u8, due: Due) -> ComplexSample
-    ensures { result ≡ input_of phase (Ok due) }
+fn input(phase: u8, due: Result<Due, Refusal>) -> ComplexSample
+    ensures { result ≡ input_of phase (numbered due) }
 {
     match due {
-        Due::Symbol(_, _) => point(phase),
-        Due::Silence => ComplexSample { re: 0.0, im: 0.0 },
+        Ok(Due::Symbol(_, _)) => point(phase),
+        Ok(Due::Silence) | Err(_) => ComplexSample { re: 0.0, im: 0.0 },
     }
 }
 
@@ -117,10 +119,10 @@ impl DqpskMapper {
         DqpskMapper { phase: 0 }
     }
 
-    // A symbol steps the caller's phase and gives its point; anything else leaves the phase and is silence.
-    pub fn symbol(&mut self, due: Due) -> ComplexSample
-        ensures { (self.new.phase ≡ phase_after self.old.phase (Ok due))
-            × (result ≡ input_of (phase_after self.old.phase (Ok due)) (Ok due)) }
+    // A symbol steps the caller's phase and gives its point; anything else, a refusal too, leaves the phase and is silence.
+    pub fn symbol(&mut self, due: Result<Due, Refusal>) -> ComplexSample
+        ensures { (self.new.phase ≡ phase_after self.old.phase (numbered due))
+            × (result ≡ input_of (phase_after self.old.phase (numbered due)) (numbered due)) }
     {
         self.phase = phase_after(self.phase, due);
         input(self.phase, due)

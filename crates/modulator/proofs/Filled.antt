@@ -1,5 +1,5 @@
 -- What is fed for a block, and its samples in one row: one turn of each loop that writes them, and its end. Assumes nothing.
-use mathlib.Core.Path.{◌≡◌, refl, sym, ap, ◌∙◌}
+use mathlib.Core.Path.{◌≡◌, sym, ap, ◌∙◌}
 use Prim.Native.Nat.{ℕ, suc, ◌+◌, ◌-◌, ◌*◌, ◌<◌, ◌≤◌}
 use native.Mathlib.Omega.{arith}
 use native.Mathlib.Numerals.{add-one}
@@ -7,26 +7,12 @@ use mathlib.Core.List.{List, [], ◌∷◌, ◌++◌, map, append-nil}
 use lib.ListN.{get_or, length, take, drop, set, length-set, take-append-drop, drop_of_length-le}
 use lib.Seq.{take-suc-set, drop-cons, drop-drop, drop-set-lt, length-take-le, append_snoc}
 use lib.Ieee.{Float, nan}
-use Rattle.std.specs.Prelude.{Result, Ok, Err}
-use Rattle.std.specs.Result.{result_unwrap_or}
+use Rattle.std.specs.Prelude.{Result}
 use Rattle.dsp_types.specs.declared.ComplexSample.{ComplexSample}
 use Rattle.fir.specs.Fir.{samples_of, start_with}
-use Rattle.dsp_types.specs.declared.refusals.Refusal.{Refusal}
 use Rattle.mapper.specs.declared.Due.{Due}
-use Rattle.mapper.specs.declared.Due.TheVariants.{Silence}
-use Rattle.mapper.specs.Due.{numbered}
 use Rattle.mapper.specs.Dqpsk.{phase_after, input_of}
 use Rattle.modulator.specs.Blocks.{parts_of, inputs_of, phases_of}
-
--- a refusal feeds what silence does, and leaves the phase
-module _ (r : Result Due Refusal) (u : Due) (d : Result Due ℕ) (p : ℕ) (e : u ≡ result_unwrap_or r Silence) (f : numbered r ≡ d) where
-  pub silent_phase : phase_after p (Ok u) ≡ phase_after p d
-  unfolding phase_after
-  silent_phase = rw (e, ← f) (elim r as (λ v. phase_after p (Ok (result_unwrap_or v Silence)) ≡ phase_after p (numbered v)) [ Ok due ↦ refl | Err refusal ↦ refl ])
-
-  pub silent_input : input_of p (Ok u) ≡ input_of p d
-  unfolding input_of
-  silent_input = rw (e, ← f) (elim r as (λ v. input_of p (Ok (result_unwrap_or v Silence)) ≡ input_of p (numbered v)) [ Ok due ↦ refl | Err refusal ↦ refl ])
 
 module _ (due : ℕ → Result Due ℕ) (count n p k : ℕ) where
   pub part_turn : (f : ComplexSample → Float) (row all : List Float) (x : ComplexSample) → n < length row → n < count → k ≡ phase_after p (due n) → x ≡ input_of k (due n)

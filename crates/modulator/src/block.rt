@@ -9,7 +9,7 @@ ghost use Rattle.modulator.specs.Blocks.{due_after, block_call, parts_of, Wrote,
 
 use crate::sender::Modulator;
 use dsp_types::{COUNTERS, Refusal, SampleCount, TdmaTime};
-use mapper::{DqpskMapper, Due, SlotToSend, due_now, start_of};
+use mapper::{DqpskMapper, SlotToSend, due_now, start_of};
 
 #[derive(Clone, Copy)]
 pub struct Sent {
@@ -65,8 +65,7 @@ fn fill(re: &mut [f32], im: &mut [f32], mapper: &mut DqpskMapper, stretch: Stret
     let mut next = *mapper;
     for n in 0..stretch.count {
         let delayed = stretch.counter + n as u64 + 16;
-        let due = stretch.slot.due_at(delayed).unwrap_or(Due::Silence);
-        let x = next.symbol(due);
+        let x = next.symbol(stretch.slot.due_at(delayed));
         re[n] = x.re;
         im[n] = x.im;
     }

@@ -5,5 +5,5 @@ mod block;
 mod sender;
 
 pub use block::Sent;
-pub use mapper::DqpskMapper;
+pub use mapper::{DqpskMapper, Due};
 pub use sender::Modulator;

@@ -40,6 +40,6 @@ impl Modulator {
         ensures kept { OnErr result ((self.new ≡ self.old) × (mapper.new ≡ mapper.old)) }
     {
         let due = due_now(sample_counter, slot, bits)?;
-        Ok(self.filter.sample(mapper.symbol(due)))
+        Ok(self.filter.sample(mapper.symbol(Ok(due))))
     }
 }

@@ -5,6 +5,8 @@ use Rattle.program.specs.declared.words.Kind.{Kind}
 use Rattle.program.specs.declared.words.Kind.TheVariants.{Ends, Help, Version, Option, Name}
 use Rattle.program.specs.declared.words.Named.{Named}
 use Rattle.program.specs.declared.words.Named.TheVariants.{Input, Argument}
+use Rattle.program.specs.declared.Wrong.{Wrong}
+use Rattle.program.specs.declared.Wrong.TheVariants.{UnknownOption, TwoNames}
 
 -- two words are the same
 unfoldable pub same_word : List ℕ → List ℕ → Bool
@@ -34,3 +36,8 @@ kind_of_word_at ended word = cond ended Name (kind_of_word word)
 -- the file that the word at a place names
 unfoldable pub named_at : ℕ → List ℕ → Named
 named_at at word = cond (same_word word (ascii "-")) Input (Argument at)
+
+-- what is said of words that are wrong
+unfoldable pub wrong_text : Wrong → List ℕ
+wrong_text UnknownOption = ascii "unknown option"
+wrong_text TwoNames = ascii "more than one file name"

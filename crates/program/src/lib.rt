@@ -21,6 +21,12 @@ pub enum Wrong {
 }
 
 impl fmt::Display for Wrong {
+    ghost use Rattle.std.specs.Prelude.{Some};
+    ghost use Rattle.program.specs.Words.{wrong_text};
+
+    ghost output = { λ wrong. Some (wrong_text wrong) };
+
+    #[tactic(auto, unfolding(crate::specs::Words::wrong_text, text::specs::Text::ascii))]
     fn fmt<W: fmt::Write>(&self, f: &mut fmt::Formatter<W>) -> fmt::Result {
         f.write_str(match self {
             Wrong::UnknownOption => "unknown option",
@@ -159,12 +165,12 @@ pub fn read_blocks<H: Host, R: Read, T: Taker>(
     rt: &H,
     from: &mut R,
     what: &[u8],
+    block: &mut [u8],
     taker: &mut T,
 ) -> bool {
-    let mut block = [0u8; 65536];
     // A proved loop has to end, and nothing says that an input does: it counts to a number that no run reaches.
     for _ in 0..u64::MAX {
-        let Some(n) = streams::read_or_tell(rt, from, &mut block, what) else {
+        let Some(n) = streams::read_or_tell(rt, from, block, what) else {
             return false;
         };
         if n == 0 || !taker.take(rt, &block[..n]) {

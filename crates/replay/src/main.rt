@@ -54,20 +54,26 @@ impl Taker for Replayer {
     }
 }
 
+// Not inlined: a run that tells the help or the version needs none of its blocks on the stack.
+#[inline(never)]
 fn run<H: Host, R: Read>(rt: &H, from: &mut R) {
+    let mut block = [0u8; 65536];
     let mut replayer = Replayer {
         line: Line::new(),
         session: Session::new(),
         out: Output::new(),
     };
     let what = b"replay: the input cannot be read";
-    if !program::read_blocks(rt, from, what, &mut replayer) {
-        // What was read of a line before that is no line.
-        replayer.line.clear();
-    }
-    // No newline ends the last line.
-    if !replayer.line.is_empty() {
+    // An end that comes in a line ends the line: a terminal's input may go on behind it. So the run ends where nothing was read of
+    // a line. A proved loop has to end: it counts to a number that no run reaches.
+    for _ in 0..u64::MAX {
+        // What was read of a line before the input failed is no line.
+        let is_read = program::read_blocks(rt, from, what, &mut block, &mut replayer);
+        if !is_read || replayer.out.is_broken || replayer.line.is_empty() {
+            break;
+        }
         replayer.call(rt);
+        replayer.line.clear();
     }
     replayer.out.flush(rt);
 }

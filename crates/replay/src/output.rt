@@ -3,6 +3,9 @@ use arrayvec::ArrayVec;
 use streams::Host;
 use text::Text;
 
+// A block less room for an answer.
+const MOST_GATHERED: usize = 64512;
+
 #[derive(Drop)]
 pub struct Output {
     bytes: ArrayVec<u8, 65536>,
@@ -33,12 +36,12 @@ impl Output {
         self.bytes.clear();
     }
 
-    // A text fits once what is gathered is written out.
+    // What is gathered is written out where it may leave no room for an answer, which has less than 1,024 bytes.
     pub(crate) fn add<H: Host>(&mut self, rt: &H, text: Text) {
         let bytes = text.as_bytes();
-        if self.bytes.try_extend_from_slice(bytes).is_err() {
+        if MOST_GATHERED < self.bytes.len() || self.bytes.remaining_capacity() < bytes.len() {
             self.flush(rt);
-            let _ = self.bytes.try_extend_from_slice(bytes);
         }
+        let _ = self.bytes.try_extend_from_slice(bytes);
     }
 }

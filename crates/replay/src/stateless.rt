@@ -16,7 +16,8 @@ fn built(answer: Result<Burst, Refusal>) -> Text {
 pub(crate) fn build_joined(line: &[u8]) -> Option<Text> {
     let kind = letter(line, 1).filter(|kind| kind.is_ascii_alphabetic())?;
     let characters = digits(line, 2)?;
-    Some(built(block_text::answer(BurstType::of_letter(kind), characters)))
+    let burst_type = BurstType::of_letter(kind).map_or(0, BurstType::number);
+    Some(built(block_text::answer(burst_type, characters)))
 }
 
 // A burst from three slices.

@@ -58,7 +58,7 @@ up_whole style r begins (x ∷ xs) c = go (first style r x xs c) (λ after. up_w
 module _ (form : Form) (has_bits : Bool) where
   -- both, where the downlink has made this step and the uplink is before it
   abbrev led : Receiver → Bool → Step → Both
-  led up begins s = record { down = s.heard.receiver; up = up; begins = begins; behind = s.taken; slot = s.heard.slot; line = s.heard.lines }
+  led up begins s = record { down = s.heard.receiver; up = up; begins = begins; behind = s.taken; slot = s.heard.slot; has_line = s.heard.slot; line = s.heard.lines }
 
   one_led : (down up : Receiver) (begins : Bool) (x y : ComplexSample) (xs ys : List ComplexSample) (c : ℤ)
       → ((after up : Receiver) (begins : Bool) → both_printed form has_bits after up begins xs ys (c +ℤ pos 1) ≡ rest_printed form has_bits (led up begins (step_of (down_style form has_bits) after xs (c +ℤ pos 1))) xs ys (c +ℤ pos 1))
@@ -80,20 +80,20 @@ module _ (form : Form) (has_bits : Bool) where
   both_led down up begins (x ∷ xs) (y ∷ ys) c e =
       one_led down up begins x y xs ys c (λ after up begins. both_led after up begins xs ys (c +ℤ pos 1) (omega arith)) (first (down_style form has_bits) down x xs c)
 
-  led_whole : (down up : Receiver) (begins : Bool) (slot : Bool) (line : List ℕ) (xs ys : List ComplexSample) (c : ℤ) → length xs ≡ length ys
-      → let b : Both = record { down = down; up = up; begins = begins; behind = 0; slot = slot; line = line } in let s = lead_step form has_bits b xs c in
+  led_whole : (down up : Receiver) (begins : Bool) (slot has_line : Bool) (line : List ℕ) (xs ys : List ComplexSample) (c : ℤ) → length xs ≡ length ys
+      → let b : Both = record { down = down; up = up; begins = begins; behind = 0; slot = slot; has_line = has_line; line = line } in let s = lead_step form has_bits b xs c in
       rest_printed form has_bits b xs ys c ≡ line ++ rest_printed form has_bits s.both xs ys (c +ℤ pos 0)
   unfolding lead_step rest_printed up_printed
-  led_whole down up begins slot line xs ys c e = rw (+ℤ_idr c) (ap (λ (l : List ℕ). line ++ l) (both_led down (follow_if slot up down) (begins_if slot up c begins) xs ys c e))
+  led_whole down up begins slot has_line line xs ys c e = rw (+ℤ_idr c) (ap (λ (l : List ℕ). line ++ l) (both_led down (follow_if slot up down) (begins_if slot up c begins) xs ys c e))
 
   -- the uplink comes after it: a step of its own, which is what it prints first
-  caught_up : (down up : Receiver) (begins : Bool) (n : ℕ) (slot : Bool) (line : List ℕ) (xs ys : List ComplexSample) (c : ℤ) (s : Step)
+  caught_up : (down up : Receiver) (begins : Bool) (n : ℕ) (slot has_line : Bool) (line : List ℕ) (xs ys : List ComplexSample) (c : ℤ) (s : Step)
       → up_printed (up_style form has_bits) up begins (take n ys) c ≡ up_from (up_style form has_bits) begins s (take n ys) c → s.taken ≤ n
-      → rest_printed form has_bits (record { down = down; up = up; begins = begins; behind = n; slot = slot; line = line }) xs ys c
+      → rest_printed form has_bits (record { down = down; up = up; begins = begins; behind = n; slot = slot; has_line = has_line; line = line }) xs ys c
       ≡ shown_of begins s.heard.lines
-      ++ rest_printed form has_bits (record { down = down; up = s.heard.receiver; begins = still_begins begins s.heard.slot; behind = n - s.taken; slot = slot; line = line }) (drop s.taken xs) (drop s.taken ys) (c +ℤ pos s.taken)
+      ++ rest_printed form has_bits (record { down = down; up = s.heard.receiver; begins = still_begins begins s.heard.slot; behind = n - s.taken; slot = slot; has_line = has_line; line = line }) (drop s.taken xs) (drop s.taken ys) (c +ℤ pos s.taken)
   unfolding rest_printed
-  caught_up down up begins n slot line xs ys c s e h =
+  caught_up down up begins n slot has_line line xs ys c s e h =
       let t = s.taken in
       let w : t + (n - t) ≡ n = omega arith in
       rw (
@@ -106,13 +106,13 @@ module _ (form : Form) (has_bits : Bool) where
         counts_both c t n h,
       )
 
-  step_whole_both : (down up : Receiver) (begins : Bool) (n : ℕ) (slot : Bool) (line : List ℕ) (xs ys : List ComplexSample) (c : ℤ) → length xs ≡ length ys
-      → let b : Both = record { down = down; up = up; begins = begins; behind = n; slot = slot; line = line } in let s = both_step form has_bits b xs ys c in
+  step_whole_both : (down up : Receiver) (begins : Bool) (n : ℕ) (slot has_line : Bool) (line : List ℕ) (xs ys : List ComplexSample) (c : ℤ) → length xs ≡ length ys
+      → let b : Both = record { down = down; up = up; begins = begins; behind = n; slot = slot; has_line = has_line; line = line } in let s = both_step form has_bits b xs ys c in
       rest_printed form has_bits b xs ys c ≡ s.line ++ rest_printed form has_bits s.both (drop s.taken xs) (drop s.taken ys) (c +ℤ pos s.taken)
   unfolding both_step step_by lead_step catch_up_step
-  step_whole_both down up begins zero slot line xs ys c e = led_whole down up begins slot line xs ys c e
-  step_whole_both down up begins (suc n) slot line xs ys c e =
-      caught_up down up begins (suc n) slot line xs ys c (step_of (up_style form has_bits) up (take (suc n) ys) c) (up_whole (up_style form has_bits) up begins (take (suc n) ys) c)
+  step_whole_both down up begins zero slot has_line line xs ys c e = led_whole down up begins slot has_line line xs ys c e
+  step_whole_both down up begins (suc n) slot has_line line xs ys c e =
+      caught_up down up begins (suc n) slot has_line line xs ys c (step_of (up_style form has_bits) up (take (suc n) ys) c) (up_whole (up_style form has_bits) up begins (take (suc n) ys) c)
       (omega (arith, (step_goes (up_style form has_bits) up (take (suc n) ys) c).0, length-take (suc n) ys))
 
 -- the first n of parts' samples
@@ -140,7 +140,7 @@ first_few n parts {k} e =
 both_hears : (form : Form) (has_bits : Bool) (b : Both) (xs ys : List ComplexSample) (c : ℤ) {s : BothStep} → s ≡ both_step form has_bits b xs ys c
     → (s ≡ both_step form has_bits b xs ys c)
     × (length xs ≡ length ys → rest_printed form has_bits b xs ys c ≡ s.line ++ rest_printed form has_bits s.both (drop s.taken xs) (drop s.taken ys) (c +ℤ pos s.taken))
-both_hears form has_bits b xs ys c e = (e, λ l. rw e (step_whole_both form has_bits b.down b.up b.begins b.behind b.slot b.line xs ys c l))
+both_hears form has_bits b xs ys c e = (e, λ l. rw e (step_whole_both form has_bits b.down b.up b.begins b.behind b.slot b.has_line b.line xs ys c l))
 
 -- which step it is
 leads : (form : Form) (has_bits : Bool) (b : Both) (xs ys : List ComplexSample) (c : ℤ) → b.behind ≡ 0 → lead_step form has_bits b xs c ≡ both_step form has_bits b xs ys c
@@ -183,14 +183,14 @@ none_lem false x e = rw e
 -- what is made of a step of one link
 pub led_made : (form : Form) (has_bits : Bool) (b : Both) (xs : List ComplexSample) (c : ℤ) {s : Step} {u : Receiver} {g : Bool} → s ≡ step_of (down_style form has_bits) b.down xs c
     → u ≡ follow_if b.slot b.up b.down → g ≡ begins_if b.slot b.up c b.begins
-    → record { taken = 0; refusal = s.refusal; line = b.line; is_shown = b.slot; both = record { down = s.heard.receiver; up = u; begins = g; behind = s.taken; slot = s.heard.slot; line = s.heard.lines } }
+    → record { taken = 0; refusal = s.refusal; line = b.line; is_shown = b.has_line; both = record { down = s.heard.receiver; up = u; begins = g; behind = s.taken; slot = s.heard.slot; has_line = s.heard.slot; line = s.heard.lines } }
     ≡ lead_step form has_bits b xs c
 unfolding lead_step
 led_made form has_bits b xs c e f g = rw (e, f, g)
 
 pub caught_made : (form : Form) (has_bits : Bool) (b : Both) (ys : List ComplexSample) (c : ℤ) {s : Step} {l : List ℕ} {p g : Bool} {zs : List ComplexSample} → zs ≡ take b.behind ys
     → s ≡ step_of (up_style form has_bits) b.up zs c → l ≡ shown_of b.begins s.heard.lines → p ≡ is_shown b.begins s.heard.slot → g ≡ still_begins b.begins s.heard.slot
-    → record { taken = s.taken; refusal = s.refusal; line = l; is_shown = p; both = record { down = b.down; up = s.heard.receiver; begins = g; behind = b.behind - s.taken; slot = b.slot; line = b.line } }
+    → record { taken = s.taken; refusal = s.refusal; line = l; is_shown = p; both = record { down = b.down; up = s.heard.receiver; begins = g; behind = b.behind - s.taken; slot = b.slot; has_line = b.has_line; line = b.line } }
     ≡ catch_up_step form has_bits b ys c
 unfolding catch_up_step
 caught_made form has_bits b ys c f e l p g = rw (l, p, g, e, f)

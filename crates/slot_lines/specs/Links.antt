@@ -86,13 +86,15 @@ up_printed style r begins (x ∷ xs) c =
     let rest = up_printed style p.receiver (still_begins begins p.slot) xs (c +ℤ pos 1) in
     record { lines = shown_of begins p.lines ++ rest.lines; receiver = rest.receiver; begins = rest.begins }
 
--- both receivers; so many samples the uplink is behind; what the last of them printed of the downlink, which waits until then
+-- both receivers; so many samples the uplink is behind; whether the last of them handed a slot over; what it printed of the
+-- downlink, which waits until then, and whether that is a slot's line
 pub record Both : Type 0 where
   pub down : Receiver
   pub up : Receiver
   pub begins : Bool
   pub behind : ℕ
   pub slot : Bool
+  pub has_line : Bool
   pub line : List ℕ
 
 -- what is still to be printed
@@ -120,7 +122,7 @@ lead_step form has_bits b xs c =
       taken = 0;
       refusal = s.refusal;
       line = b.line;
-      is_shown = b.slot;
+      is_shown = b.has_line;
       both =
           record {
             down = s.heard.receiver;
@@ -128,6 +130,7 @@ lead_step form has_bits b xs c =
             begins = begins_if b.slot b.up c b.begins;
             behind = s.taken;
             slot = s.heard.slot;
+            has_line = s.heard.slot;
             line = s.heard.lines;
           };
     }
@@ -141,7 +144,7 @@ catch_up_step form has_bits b ys c =
       refusal = s.refusal;
       line = shown_of b.begins s.heard.lines;
       is_shown = is_shown b.begins s.heard.slot;
-      both = record { down = b.down; up = s.heard.receiver; begins = still_begins b.begins s.heard.slot; behind = b.behind - s.taken; slot = b.slot; line = b.line };
+      both = record { down = b.down; up = s.heard.receiver; begins = still_begins b.begins s.heard.slot; behind = b.behind - s.taken; slot = b.slot; has_line = b.has_line; line = b.line };
     }
 
 unfoldable pub step_by : ℕ → Form → Bool → Both → (xs ys : List ComplexSample) → ℤ → BothStep
@@ -154,7 +157,7 @@ both_step form has_bits b xs ys c = step_by b.behind form has_bits b xs ys c
 -- ---- as they are stored, with the rings of both pasts
 
 unfoldable pub both_of : Links → (re im abs up_re up_im up_abs : List Float) → Both
-both_of l re im abs up_re up_im up_abs = record { down = receiver_of l.down re im abs; up = receiver_of l.up up_re up_im up_abs; begins = l.begins; behind = l.behind; slot = is_some l.line; line = line_of l.line }
+both_of l re im abs up_re up_im up_abs = record { down = receiver_of l.down re im abs; up = receiver_of l.up up_re up_im up_abs; begins = l.begins; behind = l.behind; slot = l.slot; has_line = is_some l.line; line = line_of l.line }
 
 unfoldable pub both_made : Heard → Links → (re im abs up_re up_im up_abs : List Float) → BothStep
 both_made h l re im abs up_re up_im up_abs = record { taken = h.taken; refusal = end_number h.refusal; line = line_of h.line; is_shown = is_some h.line; both = both_of l re im abs up_re up_im up_abs }

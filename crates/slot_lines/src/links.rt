@@ -21,7 +21,8 @@ pub struct Links {
     pub begins: bool,
     // So many samples the downlink has heard and the uplink has not.
     pub behind: usize,
-    // The line of the slot that the last of them handed over, if it did.
+    // Whether the last of them handed a slot over, and the line that is printed then.
+    pub slot: bool,
     pub line: Option<Text>,
 }
 
@@ -58,11 +59,11 @@ impl Links {
     // is past for the next sample, which has this counter.
     #[tactic(auto, unfolding(crate::specs::Links::follow_if, crate::specs::Links::begins_if))]
     fn follow_if(&mut self, counter: SampleCount)
-        ensures up { (re im abs re₂ im₂ abs₂ : List Float) → receiver_of self.new.up re im abs ≡ follow_if (is_some self.old.line) (receiver_of self.old.up re im abs) (receiver_of self.old.down re₂ im₂ abs₂) }
-        ensures begins { (re im abs : List Float) → self.new.begins ≡ begins_if (is_some self.old.line) (receiver_of self.old.up re im abs) counter.0 self.old.begins }
-        ensures others { (self.new.down ≡ self.old.down) × ((self.new.behind ≡ self.old.behind) × (self.new.line ≡ self.old.line)) }
+        ensures up { (re im abs re₂ im₂ abs₂ : List Float) → receiver_of self.new.up re im abs ≡ follow_if self.old.slot (receiver_of self.old.up re im abs) (receiver_of self.old.down re₂ im₂ abs₂) }
+        ensures begins { (re im abs : List Float) → self.new.begins ≡ begins_if self.old.slot (receiver_of self.old.up re im abs) counter.0 self.old.begins }
+        ensures others { (self.new.down ≡ self.old.down) × (self.new.behind ≡ self.old.behind) × (self.new.slot ≡ self.old.slot) × (self.new.line ≡ self.old.line) }
     {
-        if self.line.is_some() {
+        if self.slot {
             self.begins |= keeps_timing(&self.up, counter);
             let _ = self.up.sync_to_demodulator(&self.down);
         }
@@ -87,6 +88,7 @@ impl Links {
         };
         let heard = hear(&mut self.down, past, samples, first, style);
         self.behind = heard.taken;
+        self.slot = heard.line.is_some();
         self.line = heard.line;
         Heard {
             taken: 0,

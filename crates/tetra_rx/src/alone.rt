@@ -48,7 +48,9 @@ impl Downlink {
     }
 }
 
-// Hears an input to its end, and tells what came of it.
+// Hears an input to its end, and tells what came of it. Not inlined: of this and both::receive a run needs the blocks of one on
+// the stack, or of none.
+#[inline(never)]
 pub(crate) fn receive<H: Host, R: Read + Drop>(rt: &H, from: R, options: Options) {
     let mut block = [0u8; 65536];
     let mut parts = [0.0f32; 16384];
@@ -66,9 +68,9 @@ pub(crate) fn receive<H: Host, R: Read + Drop>(rt: &H, from: R, options: Options
         }
         input.fill(rt, &mut block, b"tetra_rx: the input cannot be read");
         let n = downlink.tally.room(input.samples());
-        input.decode(n, &mut parts);
+        input.decode(&block, n, &mut parts);
         downlink.hear(rt, &mut past, first_samples(&parts, n), style);
-        input.without(n);
+        input.without(&mut block, n);
     }
     downlink.tally.finish(rt, input.rest(), 0);
 }

@@ -24,6 +24,7 @@ impl Both {
             up: State::new(Mode::Idle),
             begins: false,
             behind: 0,
+            slot: false,
             line: None,
         };
         Both { links, tally }
@@ -99,8 +100,10 @@ fn common<R: Read>(down: &Input<R>, up: &Input<R>) -> usize {
 }
 
 // As alone::receive, with the uplink's file beside the downlink's.
+#[inline(never)]
 pub(crate) fn receive<H: Host, R: Read + Drop>(rt: &H, from: R, up_from: R, options: Options) {
     let mut block = [0u8; 65536];
+    let mut up_block = [0u8; 65536];
     let mut parts = [0.0f32; 16384];
     let mut up_parts = [0.0f32; 16384];
     let mut past = History::new();
@@ -117,13 +120,13 @@ pub(crate) fn receive<H: Host, R: Read + Drop>(rt: &H, from: R, up_from: R, opti
         }
         down.fill(rt, &mut block, b"tetra_rx: the input cannot be read");
         let was_over = up.is_over || down.is_over;
-        up.fill(rt, &mut block, b"tetra_rx: the uplink cannot be read");
+        up.fill(rt, &mut up_block, b"tetra_rx: the uplink cannot be read");
         if up.is_over && !was_over {
             both.tally.tell_uplink_end(rt);
         }
         let n = both.tally.room(common(&down, &up));
-        down.decode(n, &mut parts);
-        up.decode(n, &mut up_parts);
+        down.decode(&block, n, &mut parts);
+        up.decode(&up_block, n, &mut up_parts);
         both.hear(
             rt,
             &mut past,
@@ -132,8 +135,8 @@ pub(crate) fn receive<H: Host, R: Read + Drop>(rt: &H, from: R, up_from: R, opti
             first_samples(&up_parts, n),
             style,
         );
-        down.without(n);
-        up.without(n);
+        down.without(&mut block, n);
+        up.without(&mut up_block, n);
     }
     both.tally.finish(rt, down.rest(), up.rest());
 }

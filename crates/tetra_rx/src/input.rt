@@ -1,7 +1,6 @@
 // A file of samples, read block by block.
 ghost use Rattle.std.specs.Prelude.{◌≡◌, ◌-◌, ◌/◌, ◌<◌, ◌≤◌, min, length};
 
-use arrayvec::ArrayVec;
 use iq_format::Format;
 use std::io::Read;
 use streams::Host;
@@ -13,12 +12,13 @@ pub type Parts = [f32; 16384];
 // No more samples are held: their parts fill the row of parts.
 const MOST: usize = 8192;
 
+// The block is the caller's own: in an `ArrayVec` of the input's own a read would go by way of another block, and the stack hold both.
 #[derive(Drop)]
 pub struct Input<R> {
     from: R,
     format: Format,
-    // What was read of samples that are not done with.
-    held: ArrayVec<u8, 65536>,
+    // So many bytes stand at the block's begin: what was read of samples that are not done with.
+    held: usize,
     pub is_over: bool,
 }
 
@@ -38,12 +38,19 @@ fn silence(parts: &mut [f32], from: usize, to: usize) {
     }
 }
 
+// Moves the bytes between these places to the front.
+fn move_to_front(block: &mut Block, from: usize, to: usize) {
+    if from < to && to <= block.len() {
+        block.copy_within(from..to, 0);
+    }
+}
+
 impl<R: Read> Input<R> {
     pub(crate) fn new(from: R, format: Format) -> Input<R> {
         Input {
             from,
             format,
-            held: ArrayVec::new(),
+            held: 0,
             is_over: false,
         }
     }
@@ -56,39 +63,42 @@ impl<R: Read> Input<R> {
 
     // How many whole samples are held.
     pub(crate) fn samples(&self) -> usize {
-        self.held.len() / self.sample_bytes()
+        self.held / self.sample_bytes()
     }
 
     // How many bytes of half a sample are held.
     pub(crate) fn rest(&self) -> usize
         ensures { result ≤ 8 }
     {
-        self.held.len() % self.sample_bytes()
+        self.held % self.sample_bytes()
     }
 
-    // Reads on, by way of the block, where no whole sample is held.
+    // Reads on where no whole sample is held.
     pub(crate) fn fill<H: Host>(&mut self, rt: &H, block: &mut Block, what: &[u8]) {
         let bytes = self.sample_bytes();
-        if self.is_over || bytes <= self.held.len() {
+        if self.is_over || bytes <= self.held {
             return;
         }
-        let room = &mut block[..bytes * MOST - self.held.len()];
+        let room = &mut block[self.held..bytes * MOST];
         let got = streams::read_or_tell(rt, &mut self.from, room, what).unwrap_or(0);
-        // No more was read than there is room for.
-        let _ = self.held.try_extend_from_slice(&room[..got]);
+        self.held = self.held.wrapping_add(got);
         self.is_over = got == 0;
     }
 
     // The first n samples are decoded, zeros behind those that are held.
-    pub(crate) fn decode(&self, n: usize, parts: &mut Parts) {
-        let count = iq_format::decode(self.format, self.held.as_slice(), parts);
+    pub(crate) fn decode(&self, block: &Block, n: usize, parts: &mut Parts) {
+        let count = iq_format::decode(self.format, text::front(block, self.held), parts);
         silence(parts, count - count % 2, n.wrapping_add(n));
     }
 
     // The first n samples are done with; where there were fewer, bytes of half a sample are left.
-    pub(crate) fn without(&mut self, n: usize) {
-        let bytes = self.sample_bytes();
-        let whole = self.held.len() - self.held.len() % bytes;
-        self.held.drain(..whole.min(n.min(MOST) * bytes));
+    pub(crate) fn without(&mut self, block: &mut Block, n: usize) {
+        let done = n.min(MOST) * self.sample_bytes();
+        if done < self.held {
+            move_to_front(block, done, self.held);
+            self.held -= done;
+        } else {
+            self.held = self.rest();
+        }
     }
 }

@@ -41,12 +41,13 @@ impl Taker for Lines {
 }
 
 fn send_all<H: Host, R: Read>(rt: &H, from: &mut R) {
+    let mut block = [0u8; 65536];
     let mut lines = Lines {
         line: ArrayVec::new(),
         sender: Sender::new(),
     };
     let what = b"tetra_tx: the input cannot be read";
-    if !program::read_blocks(rt, from, what, &mut lines) {
+    if !program::read_blocks(rt, from, what, &mut block, &mut lines) {
         // What was read of a line before that is not all of it.
         lines.line.clear();
     }

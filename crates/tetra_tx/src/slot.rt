@@ -12,11 +12,9 @@ fn complain<H: Host>(rt: &H, number: u64, complaint: Complaint) {
 }
 
 pub(crate) fn of_line<H: Host>(rt: &H, number: u64, line: &[u8]) -> LineSlot {
-    match block_text::slot_of(line) {
-        Ok(slot) => slot,
-        Err(complaint) => {
-            complain(rt, number, complaint);
-            LineSlot::Empty
-        }
+    let read = block_text::slot_of(line);
+    if let Some(complaint) = read.complaint {
+        complain(rt, number, complaint);
     }
+    read.slot
 }

@@ -1,12 +1,9 @@
--- std's search is the definition's.
-use Rattle.std.proofs.Common.{rules, tests, ◌∙◌}
-use Rattle.std.proofs.lemmas.Iterator.{YieldsList-from_slice}
-use Rattle.std.proofs.lemmas.Iterator.Search.{any_from_yields_List}
-use Rattle.block_text.specs.BlockText.{not_character}
-use Rattle.block_text.proofs.Characters.{any_not}
+-- One character more is looked at; at the end nothing is left to look at.
+use Rattle.block_text.proofs.Characters.{one_more, no_more}
 use Rattle.block_text.proofs.not_characters.Goals as goal
 
+pub loop-c-preserved : goal.loop-c-preserved
+loop-c-preserved c = rw c.not_character-found.ensures (one_more c.args.characters.now c.loop-c.found c.loop-c.c-index c.loop-c-test.true c.loop-c.invariant)
+
 pub returns : goal.returns
-returns c =
-    any_from_yields_List not_character _ _ _ c.any.ensures.ran (YieldsList-from_slice c.args.characters.now cc) (λ x b q k. search (rules, tests))
-    ∙ any_not c.args.characters.now
+returns c = no_more c.args.characters.now c.loop-c.found c.loop-c.c-index c.loop-c-test.false c.loop-c.invariant
