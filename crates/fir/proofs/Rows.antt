@@ -1,12 +1,12 @@
 -- Rows of one part, oldest first: a turn of each loop over them, and what a new sample does to a line. Assumes nothing.
 use mathlib.Core.Path.{◌≡◌, refl, sym, ap, ◌∙◌}
-use mathlib.Core.List.{List, [], ◌∷◌, ◌++◌}
+use mathlib.Core.List.{List, [], ◌∷◌, ◌++◌, append_assoc, append-nil}
 use mathlib.Core.Logic.{⊎_elim}
 use Prim.Native.Nat.{ℕ, zero, suc, ◌+◌, ◌-◌, ◌*◌, ◌<◌, ◌≤◌}
 use native.Mathlib.Omega.{arith}
 use native.Mathlib.Numerals.{add-one, one-add}
-use lib.ListN.{get_or, length, set, take, drop, replicate, get_or-replicate, length-set, length-drop, get_or-append}
-use lib.Seq.{drop-cons, drop-drop, take_all, get_or_at, get_or-drop, get_or-set_same, get_or-set_other, set_at, append_snoc}
+use lib.ListN.{get_or, length, set, take, drop, replicate, get_or-replicate, length-set, length-drop, length-append, get_or-append, drop_of_length-le}
+use lib.Seq.{drop-cons, drop-drop, take_all, get_or_at, get_or-drop, get_or-set_same, get_or-set_other, set_at, append_snoc, take-append-le, take-suc, length-take-le}
 use lib.Ieee.{Float, binary32, add, mul, nan}
 use Rattle.dsp_types.specs.declared.ComplexSample.{ComplexSample}
 use Rattle.dsp_types.specs.Samples.{zero_f, silence, ago}
@@ -103,11 +103,37 @@ row_later row x h (suc d) k =
     let e : 1 + (31 - suc d) ≡ 31 - d = omega arith in
     get_or-append (drop 1 row) (x ∷ []) nan (31 - suc d) (rw (length-drop 1 row) (omega arith)) ∙ get_or-drop 1 row (31 - suc d) nan ∙ rw e
 
--- a copy of it without its oldest element, with x behind it in place of another element
-pub shift : (row : List Float) (y x : Float) → length row ≡ 32 → set (take 31 (drop 1 row) ++ (y ∷ [])) 31 x ≡ drop 1 row ++ (x ∷ [])
-shift row y x h =
-    let n : length (drop 1 row) ≡ 31 = length-drop 1 row ∙ omega arith in
-    rw (take_all 31 (drop 1 row) (omega arith)) (set_at (drop 1 row) y [] x 31 n)
+-- ---- a row without its element j
+
+abbrev pub without : List Float → ℕ → List Float
+without row j = take j row ++ drop (suc j) row
+
+-- with a place for the newest behind it, it is without that
+pub newest_out : (line : List Float) (x : Float) → length line ≡ 32 → line ≡ without (line ++ (x ∷ [])) 32
+newest_out line x h =
+    sym (
+    rw (
+      take-append-le 32 line (x ∷ []) (omega arith),
+      take_all 32 line (omega arith),
+      drop_of_length-le (line ++ (x ∷ [])) {i = 33} (omega (arith, length-append line (x ∷ []))),
+    ) (append-nil line))
+
+pub newest_is : (line : List Float) (x : Float) → length line ≡ 32 → x ≡ get_or (line ++ (x ∷ [])) 32 nan
+newest_is line x h = sym (get_or_at line x [] nan 32 h)
+
+-- the element before it gives its place to it
+module _ (row : List Float) (j : ℕ) (h : suc j < length row) where
+  parted : without row (suc j) ≡ take j row ++ (get_or row j nan ∷ drop (suc (suc j)) row)
+  parted = rw (take-suc row j nan (omega arith)) (append_assoc (take j row) (get_or row j nan ∷ []) (drop (suc (suc j)) row))
+
+  pub one_down : set (without row (suc j)) j (get_or row (suc j) nan) ≡ without row j
+  one_down =
+      rw parted
+      (set_at (take j row) (get_or row j nan) (drop (suc (suc j)) row) (get_or row (suc j) nan) j (length-take-le j row (omega arith))
+      ∙ ap (λ (l : List Float). take j row ++ l) (sym (drop-cons row (suc j) nan h)))
+
+  pub given_on : get_or (without row (suc j)) j nan ≡ get_or row j nan
+  given_on = rw parted (get_or_at (take j row) (get_or row j nan) (drop (suc (suc j)) row) nan j (length-take-le j row (omega arith)))
 
 -- the samples of two rows
 abbrev pub in_rows : List Float → List Float → ℕ → ComplexSample

@@ -64,14 +64,17 @@ fn filter_block(row: &[f32], out: &mut [f32])
     }
 }
 
-// One part of the line takes x as its newest sample.
+// One part of the line takes x as its newest sample: from the newest place down each element makes way. (A copy of the others by a
+// place is `memmove`, which C would have to link.)
 fn push(line: &mut [f32; 32], x: f32)
     ensures { line.new ≡ drop 1 line.old ++ (x ∷ []) }
 {
-    let mut next = [0.0f32; 32];
-    next[..31].copy_from_slice(&line[1..]);
-    next[31] = x;
-    *line = next;
+    let mut next = x;
+    for k in 0..32 {
+        let old = line[31 - k];
+        line[31 - k] = next;
+        next = old;
+    }
 }
 
 // One part of a block: writes its outputs, and the line takes the block.
